@@ -1,0 +1,8 @@
+// Worked examples of the layers, as tests over what each makes public. They stand in a crate of their
+// own, since a crate with tests is proved twice.
+#[cfg(test)]
+mod notice_examples;
+#[cfg(test)]
+mod refusal_examples;
+#[cfg(test)]
+mod word_examples;
