@@ -6,196 +6,184 @@ use notice::look_up;
 use notice::show_line;
 use notice::write_line;
 use refusals::Fault;
-use std::alloc::AllocError;
-use std::alloc::Global;
 use std::test::*;
 
-// Adds a record: a code, a length, a text, and zeros up to 64 bytes.
-fn add(table: &mut Vec<u8>, code: u8, length: u8, text: &[u8]) -> Result<(), AllocError> {
-    table.push(code)?;
-    table.push(length)?;
-    table.extend_from_slice(text)?;
-    for _ in text.len()..62 {
-        table.push(0)?;
+// A record of a table: its code, the length that it says, and its text.
+#[derive(Clone, Copy)]
+struct TextRecord<'a> {
+    code: u8,
+    length: u8,
+    text: &'a [u8],
+}
+
+fn record(code: u8, length: u8, text: &[u8]) -> TextRecord<'_> {
+    TextRecord { code, length, text }
+}
+
+// Writes record k of a table of zeros.
+fn put(table: &mut [u8], k: usize, record: TextRecord) {
+    let size = record.text.len();
+    if k < 257 && table.len() >= 64 * k + 64 && size <= 62 {
+        table[64 * k] = record.code;
+        table[64 * k + 1] = record.length;
+        table[64 * k + 2..64 * k + 2 + size].copy_from_slice(record.text);
+    }
+}
+
+// The table of two records.
+fn pair(first: TextRecord, second: TextRecord) -> [u8; 128] {
+    let mut table = [0u8; 128];
+    put(&mut table, 0, first);
+    put(&mut table, 1, second);
+    table
+}
+
+// Whether the look-up answers this number, or, where it is 0, finds this text.
+fn answers(own: &[u8], english: &[u8], code: u8, number: u8, text: &[u8]) -> bool {
+    match look_up(own, english, code) {
+        Ok(found) => number == 0 && found == text,
+        Err(fault) => number == fault.number(),
+    }
+}
+
+// The same of either table: the other is empty.
+fn each_answers(table: &[u8], code: u8, number: u8, text: &[u8]) -> bool {
+    answers(table, &[], code, number, text) && answers(&[], table, code, number, text)
+}
+
+// Fills a table with records of the code 1, and a first one of the code 2.
+fn fill(table: &mut [u8]) {
+    put(table, 0, record(2, 1, b"y"));
+    for k in 1..table.len() / 64 {
+        put(table, k, record(1, 1, b"x"));
+    }
+}
+
+#[test]
+fn tables_have_at_most_256_records() -> Result<(), Fail> {
+    let mut full = [0u8; 16_384];
+    fill(&mut full);
+    let mut over = [0u8; 16_448];
+    fill(&mut over);
+    check(each_answers(&full, 2, 0, b"y") && each_answers(&over, 2, 25, b""))
+}
+
+#[test]
+fn tables_are_whole_records() -> Result<(), Fail> {
+    let table = pair(record(2, 1, b"y"), record(3, 1, b"z"));
+    for size in 0..129usize {
+        let number = match size {
+            0 => 27,
+            64 | 128 => 0,
+            _ => 25,
+        };
+        check(each_answers(&table[0..size], 2, number, b"y"))?;
     }
     Ok(())
 }
 
-// A table of one record.
-fn one(heap: Global, code: u8, length: u8, text: &[u8]) -> Result<Vec<u8>, AllocError> {
-    let mut table = Vec::new(heap);
-    add(&mut table, code, length, text)?;
-    Ok(table)
-}
-
-// A table of so many records with the code 1 and the text x, and a last one with the code 2 and the text y.
-fn long(heap: Global, ones: usize) -> Result<Vec<u8>, AllocError> {
-    let mut table = Vec::new(heap);
-    for _ in 0..ones {
-        add(&mut table, 1, 1, b"x")?;
-    }
-    add(&mut table, 2, 1, b"y")?;
-    Ok(table)
-}
-
-// The look-up finds this text.
-fn finds(own: &[u8], english: &[u8], code: u8, text: &[u8]) -> Result<(), Fail> {
-    match look_up(own, english, code) {
-        Ok(found) => check_eq(found, text),
-        Err(_) => Err(Fail::new("the look-up is refused")),
-    }
-}
-
-// The look-up is refused by this number.
-fn refused(own: &[u8], english: &[u8], code: u8, number: u8) -> Result<(), Fail> {
-    match look_up(own, english, code) {
-        Ok(_) => Err(Fail::new("the look-up is accepted")),
-        Err(fault) => check_eq(fault.number(), number),
-    }
-}
-
 #[test]
-fn tables_have_at_most_256_whole_records(rt: LibcRuntime) -> Result<(), Fail> {
-    let heap = rt.alloc();
-    let full = long(heap, 255)?;
-    finds(&full, &[], 2, b"y")?;
-    finds(&[], &full, 2, b"y")?;
-    let over = long(heap, 256)?;
-    refused(&over, &[], 2, 25)?;
-    refused(&[], &over, 2, 25)?;
-    let whole = one(heap, 1, 1, b"x")?;
-    check(whole.len() == 64)?;
-    refused(&whole[0..63], &whole, 1, 25)?;
-    refused(&whole, &whole[0..1], 1, 25)
-}
-
-#[test]
-fn lengths_are_1_to_62(rt: LibcRuntime) -> Result<(), Fail> {
-    let heap = rt.alloc();
+fn lengths_are_1_to_62() -> Result<(), Fail> {
     let text = [b'a'; 62];
-    let longest = one(heap, 7, 62, &text)?;
-    finds(&longest, &[], 7, &text)?;
-    let over = one(heap, 7, 63, &text)?;
-    refused(&over, &[], 7, 26)?;
-    refused(&[], &over, 7, 26)?;
-    refused(&one(heap, 7, 255, &text)?, &[], 7, 26)?;
-    let shortest = one(heap, 7, 1, b"a")?;
-    finds(&shortest, &[], 7, b"a")?;
-    let none = one(heap, 7, 0, b"")?;
-    refused(&none, &[], 7, 26)?;
-    refused(&[], &none, 7, 26)
+    for length in 0..=255 {
+        // a shorter length leaves letters where zeros must be
+        let number = if length == 62 { 0 } else { 26 };
+        let table = pair(record(7, length, &text), record(8, 1, b"b"));
+        check(each_answers(&table, 7, number, &text))?;
+    }
+    let shortest = pair(record(7, 1, b"a"), record(8, 1, b"b"));
+    let empty = pair(record(7, 1, b"a"), record(8, 0, b""));
+    check(each_answers(&shortest, 7, 0, b"a") && each_answers(&empty, 7, 26, b""))
 }
 
 #[test]
-fn tails_are_zero(rt: LibcRuntime) -> Result<(), Fail> {
-    let heap = rt.alloc();
-    let mut last = one(heap, 7, 2, b"ab")?;
-    check(last.len() == 64)?;
-    last[63] = 1;
-    refused(&last, &[], 7, 26)?;
-    refused(&[], &last, 7, 26)?;
-    // the text is one byte longer than the length says
-    refused(&one(heap, 7, 2, b"abc")?, &[], 7, 26)?;
-    // the second record counts too, and so does a record with another code
-    let mut two = one(heap, 7, 2, b"ab")?;
-    two.extend_from_slice(&last)?;
-    refused(&two, &[], 7, 26)?;
-    refused(&two, &[], 8, 26)
+fn tails_are_zero() -> Result<(), Fail> {
+    let good = pair(record(7, 2, b"ab"), record(8, 2, b"cd"));
+    for at in 4..128usize {
+        let mut table = good;
+        table[at] = 9;
+        // the bytes 0 to 3 of a record are its code, its length and its text
+        let number = if at % 64 < 4 { 0 } else { 26 };
+        check(each_answers(&table, 7, number, b"ab"))?;
+    }
+    Ok(())
 }
 
 #[test]
-fn the_offices_language_comes_first(rt: LibcRuntime) -> Result<(), Fail> {
-    let heap = rt.alloc();
-    let mut own = one(heap, 1, 4, b"eins")?;
-    add(&mut own, 0, 4, b"null")?;
-    let mut english = one(heap, 1, 3, b"one")?;
-    add(&mut english, 2, 3, b"two")?;
-    add(&mut english, 0, 4, b"zero")?;
-    finds(&own, &english, 1, b"eins")?;
-    finds(&own, &english, 2, b"two")?;
-    finds(&own, &english, 0, b"null")?;
-    finds(&english, &own, 1, b"one")?;
-    refused(&own, &english, 3, 27)?;
-    refused(&[], &[], 0, 27)
+fn the_offices_language_comes_first() -> Result<(), Fail> {
+    let own = pair(record(1, 4, b"eins"), record(0, 4, b"null"));
+    let english = pair(record(1, 3, b"one"), record(2, 3, b"two"));
+    check(answers(&own, &english, 1, 0, b"eins") && answers(&english, &own, 1, 0, b"one"))?;
+    check(answers(&own, &english, 2, 0, b"two") && answers(&english, &own, 2, 0, b"two"))?;
+    check(answers(&own, &english, 0, 0, b"null") && answers(&own, &english, 3, 27, b""))?;
+    let twice = pair(record(4, 5, b"first"), record(4, 6, b"second"));
+    check(each_answers(&twice, 4, 0, b"first"))
 }
 
 #[test]
-fn the_first_record_with_the_code_counts(rt: LibcRuntime) -> Result<(), Fail> {
-    let heap = rt.alloc();
-    let mut table = one(heap, 9, 5, b"other")?;
-    add(&mut table, 4, 5, b"first")?;
-    add(&mut table, 4, 6, b"second")?;
-    finds(&table, &[], 4, b"first")?;
-    finds(&[], &table, 4, b"first")
-}
-
-#[test]
-fn questions_are_asked_in_their_order(rt: LibcRuntime) -> Result<(), Fail> {
-    let heap = rt.alloc();
-    let good = one(heap, 1, 1, b"x")?;
-    let bad = one(heap, 1, 0, b"")?;
-    check(good.len() == 64)?;
-    // 25 of both tables comes before 26 of either, and 26 before 27
-    refused(&bad, &good[0..63], 1, 25)?;
-    refused(&good, &bad, 1, 26)?;
-    refused(&bad, &good, 2, 26)?;
+fn questions_are_asked_in_their_order() -> Result<(), Fail> {
+    let good = pair(record(1, 1, b"x"), record(2, 1, b"y"));
+    let bad = pair(record(1, 0, b""), record(2, 1, b"y"));
+    // 25 of both tables comes before 26 of either, and that before 27
+    check(answers(&bad, &good[0..63], 1, 25, b"") && answers(&good[0..63], &bad, 1, 25, b""))?;
+    check(answers(&good, &bad, 1, 26, b"") && answers(&bad, &good, 3, 26, b""))?;
     // a line asks 5 first and 28 last
+    let part = &good[0..63];
+    check(refused_by(16, 1, part, &bad) == 5 && refused_by(15, 1, part, &bad) == 25)?;
+    check(refused_by(15, 1, &good, &bad) == 26 && refused_by(15, 3, &good, &good) == 27)?;
+    check(refused_by(15, 1, &good, &good) == 28)
+}
+
+// The number that refuses a line into an output without room.
+fn refused_by(office: u8, code: u8, own: &[u8], english: &[u8]) -> u8 {
     let mut out = [0u8; 0];
-    line_refused(16, 1, &good[0..63], &bad, &mut out, 5)?;
-    line_refused(15, 1, &good[0..63], &bad, &mut out, 25)?;
-    line_refused(15, 1, &good, &bad, &mut out, 26)?;
-    line_refused(15, 2, &good, &good, &mut out, 27)?;
-    line_refused(15, 1, &good, &good, &mut out, 28)
-}
-
-// The notice line is refused by this number.
-fn line_refused(
-    office: u8,
-    code: u8,
-    own: &[u8],
-    english: &[u8],
-    out: &mut [u8],
-    number: u8,
-) -> Result<(), Fail> {
-    match write_line(office, code, own, english, out) {
-        Ok(_) => Err(Fail::new("the line is accepted")),
-        Err(fault) => check_eq(fault.number(), number),
+    match write_line(office, code, own, english, &mut out) {
+        Ok(_) => 0,
+        Err(fault) => fault.number(),
     }
 }
 
 #[test]
-fn a_line_fits_or_leaves_the_output(rt: LibcRuntime) -> Result<(), Fail> {
-    let english = one(rt.alloc(), 6, 5, b"Bring")?;
-    let mut out = [b'.'; 11];
-    match write_line(7, 6, &[], &english, &mut out) {
-        Ok(length) => check_eq(length, 9)?,
-        Err(_) => return Err(Fail::new("the line is refused")),
+fn a_line_fits_or_leaves_the_output() -> Result<(), Fail> {
+    let english = pair(record(6, 5, b"Bring"), record(7, 1, b"x"));
+    for room in 0..13usize {
+        let mut out = [b'.'; 12];
+        let number = match write_line(15, 6, &[], &english, &mut out[0..room.min(12)]) {
+            Ok(length) => length,
+            Err(fault) => usize::from(fault.number()),
+        };
+        let fits = room >= 9;
+        check_eq(number, if fits { 9 } else { 28 })?;
+        check_eq(out, if fits { *b"15 Bring\n..." } else { [b'.'; 12] })?;
     }
-    check_eq(out, *b"07 Bring\n..")?;
-    let mut exact = [b'.'; 9];
-    match write_line(15, 6, &[], &english, &mut exact) {
-        Ok(length) => check_eq(length, 9)?,
-        Err(_) => return Err(Fail::new("the line is refused")),
-    }
-    check_eq(exact, *b"15 Bring\n")?;
-    let mut short = [b'.'; 8];
-    line_refused(15, 6, &[], &english, &mut short, 28)?;
-    check_eq(short, [b'.'; 8])?;
-    line_refused(16, 6, &[], &english, &mut out, 5)?;
-    line_refused(255, 6, &[], &english, &mut out, 5)?;
-    check_eq(out, *b"07 Bring\n..")
+    Ok(())
 }
 
 #[test]
-fn a_counter_shows_the_line_or_the_number(rt: LibcRuntime) -> Result<(), Fail> {
-    let text = [b'z'; 62];
-    let english = one(rt.alloc(), 6, 62, &text)?;
-    let mut out = [b'.'; LONGEST_LINE];
-    check_eq(show_line(3, 6, &[], &english, &mut out), 66)?;
-    check_eq(out[2], b' ')?;
-    check_eq(out[3], b'z')?;
-    check_eq(out[65], b'\n')?;
-    let mut number = [b'.'; LONGEST_LINE];
-    check_eq(show_line(3, 5, &[], &english, &mut number), 3)?;
-    check_eq(&number[0..5], b"27\n..")
+fn offices_are_below_16() -> Result<(), Fail> {
+    let english = pair(record(6, 5, b"Bring"), record(7, 1, b"x"));
+    for office in 0..=255 {
+        let mut out = [b'.'; LONGEST_LINE];
+        let length = show_line(office, 6, &[], &english, &mut out);
+        // the line, or 05 and what was there
+        check_eq(length, if office < 16 { 9 } else { 3 })?;
+        check_eq(
+            out[0],
+            if office < 10 || office >= 16 {
+                b'0'
+            } else {
+                b'1'
+            },
+        )?;
+        check_eq(
+            out[1],
+            if office < 16 {
+                b'0' + office % 10
+            } else {
+                b'5'
+            },
+        )?;
+        check_eq(out[8], if office < 16 { b'\n' } else { b'.' })?;
+    }
+    Ok(())
 }

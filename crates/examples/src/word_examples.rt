@@ -4,7 +4,6 @@ use words::Class;
 use words::ClassPartialEq;
 use words::Decision;
 use words::DecisionPartialEq;
-use words::Joining;
 use words::Knowledge;
 use words::KnowledgeJoining;
 use words::KnowledgePartialEq;
@@ -34,22 +33,34 @@ fn knowledge(yes: &[u8], no: &[u8], ready: &[u8]) -> Knowledge {
     }
 }
 
-// The offices 0 to 15.
-const ALL: [u8; 16] = [0, 1, 2, 3, 4, 5, 6, 7, 8, 9, 10, 11, 12, 13, 14, 15];
+const N: TermWord = TermWord::Noncommittable;
+
+const C: TermWord = TermWord::Committable;
+
+const A: TermWord = TermWord::Abort;
+
+// Two words and their sum.
+const TERM_SUMS: [(TermWord, TermWord, TermWord); 9] = [
+    (N, N, N),
+    (N, C, C),
+    (N, A, A),
+    (C, N, C),
+    (C, C, C),
+    (C, A, A),
+    (A, N, A),
+    (A, C, A),
+    (A, A, A),
+];
 
 #[test]
-fn termination_words_sum_to_the_highest() -> Result<(), Fail> {
-    let n = TermWord::Noncommittable;
-    let c = TermWord::Committable;
-    let a = TermWord::Abort;
-    check(sum(&[n, c]) == c)?;
-    check(sum(&[c, n]) == c)?;
-    check(sum(&[c, a, n]) == a)?;
-    check(sum(&[n, n]) == n)?;
-    check(sum(&[c, c]) == c)?;
-    check(a.joined(c) == a)?;
+fn termination_words_sum_to_the_higher() -> Result<(), Fail> {
+    for (a, b, both) in TERM_SUMS {
+        check(sum(&[a, b]) == both && sum(&[N, b, a, b]) == both)?;
+        // two words are the same where each is their sum
+        check(a.same(&b) == (a == both && b == both))?;
+    }
     let none: [TermWord; 0] = [];
-    check(sum(&none) == n)
+    check(sum(&none) == N)
 }
 
 #[test]
@@ -57,71 +68,98 @@ fn knowledge_sums_set_by_set() -> Result<(), Fail> {
     let first = knowledge(&[0], &[3], &[15]);
     let second = knowledge(&[0, 1], &[], &[2]);
     let both = knowledge(&[0, 1], &[3], &[2, 15]);
-    check(sum(&[first, second]) == both)?;
-    check(sum(&[second, first, second]) == both)?;
+    check(sum(&[first, second]) == both && sum(&[second, first, second]) == both)?;
     let none: [Knowledge; 0] = [];
     check(sum(&none) == knowledge(&[], &[], &[]))
 }
 
 #[test]
-fn words_are_told_apart() -> Result<(), Fail> {
+fn knowledge_differs_in_any_of_its_sets() -> Result<(), Fail> {
     let k = knowledge(&[0], &[1], &[2]);
-    check(k.same(&knowledge(&[0], &[1], &[2])))?;
-    check(!k.same(&knowledge(&[], &[1], &[2])))?;
-    check(!k.same(&knowledge(&[0], &[], &[2])))?;
-    check(!k.same(&knowledge(&[0], &[1], &[])))?;
-    check(TermWord::Abort.same(&TermWord::Abort))?;
-    check(!TermWord::Abort.same(&TermWord::Committable))?;
-    check(!TermWord::Noncommittable.same(&TermWord::Abort))
+    let others = [
+        knowledge(&[], &[1], &[2]),
+        knowledge(&[0], &[], &[2]),
+        knowledge(&[0], &[1], &[]),
+    ];
+    for other in others {
+        check(k.same(&k) && other.same(&other) && !k.same(&other))?;
+    }
+    Ok(())
 }
 
-// The knowledge has this class among n offices.
-fn classed(known: Knowledge, n: u8, class: Class) -> Result<(), Fail> {
-    check(known.class(n) == class)
+// The offices 0 to 15.
+const ALL: [u8; 16] = [0, 1, 2, 3, 4, 5, 6, 7, 8, 9, 10, 11, 12, 13, 14, 15];
+
+// The class of a knowledge among n offices.
+#[derive(Clone, Copy)]
+struct ClassCase {
+    yes: &'static [u8],
+    no: &'static [u8],
+    ready: &'static [u8],
+    n: u8,
+    class: Class,
+}
+
+const fn classed(
+    yes: &'static [u8],
+    no: &'static [u8],
+    ready: &'static [u8],
+    n: u8,
+    class: Class,
+) -> ClassCase {
+    ClassCase {
+        yes,
+        no,
+        ready,
+        n,
+        class,
+    }
 }
 
 #[test]
 fn the_first_rule_that_fits_gives_the_class() -> Result<(), Fail> {
-    classed(knowledge(&[0, 1, 2], &[], &[0]), 3, Class::Committable)?;
-    classed(knowledge(&[0, 1], &[2], &[]), 3, Class::Aborted)?;
-    classed(knowledge(&[0, 1, 2], &[], &[0, 1, 2]), 3, Class::Committed)?;
-    classed(knowledge(&[0, 2], &[], &[]), 3, Class::Noncommittable)?;
-    classed(knowledge(&[0, 1, 2], &[2], &[0, 1, 2]), 3, Class::Aborted)?;
-    // a ready set that holds all decides, whatever `yes` holds
-    classed(knowledge(&[], &[], &[0, 1, 2]), 3, Class::Committed)
-}
-
-#[test]
-fn every_number_of_offices_has_a_class() -> Result<(), Fail> {
-    let all = knowledge(&ALL, &[], &ALL);
-    classed(all, 16, Class::Committed)?;
-    // no set holds seventeen offices
-    classed(all, 17, Class::Noncommittable)?;
-    classed(all, 255, Class::Noncommittable)?;
-    // every set holds all of no offices
-    classed(knowledge(&[], &[], &[]), 0, Class::Committed)?;
-    // a no counts, whoever voted it
-    classed(knowledge(&[0, 1], &[5], &[]), 2, Class::Aborted)
+    let cases = [
+        classed(&[0, 1, 2], &[], &[0], 3, Class::Committable),
+        classed(&[0, 1], &[2], &[], 3, Class::Aborted),
+        classed(&[0, 1, 2], &[], &[0, 1, 2], 3, Class::Committed),
+        classed(&[0, 2], &[], &[], 3, Class::Noncommittable),
+        classed(&[0, 1, 2], &[2], &[0, 1, 2], 3, Class::Aborted),
+        // a ready set that holds all decides, whatever `yes` holds
+        classed(&[], &[], &[0, 1, 2], 3, Class::Committed),
+        // a no counts, whoever voted it
+        classed(&[0, 1], &[5], &[], 2, Class::Aborted),
+        classed(&ALL, &[], &ALL, 16, Class::Committed),
+        // no set holds seventeen offices
+        classed(&ALL, &[], &ALL, 17, Class::Noncommittable),
+        classed(&ALL, &[], &ALL, 255, Class::Noncommittable),
+        // every set holds all of no offices
+        classed(&[], &[], &[], 0, Class::Committed),
+    ];
+    for case in cases.iter() {
+        check(knowledge(case.yes, case.no, case.ready).class(case.n) == case.class)?;
+    }
+    Ok(())
 }
 
 #[test]
 fn two_classes_are_decisions() -> Result<(), Fail> {
-    check(Class::Committed.decision() == Some(Decision::Commit))?;
-    check(Class::Aborted.decision() == Some(Decision::Abort))?;
-    check(Class::Committable.decision() == None)?;
-    check(Class::Noncommittable.decision() == None)
+    check(
+        Class::Committed.decision() == Some(Decision::Commit)
+            && Class::Aborted.decision() == Some(Decision::Abort)
+            && Class::Committable.decision() == None
+            && Class::Noncommittable.decision() == None,
+    )
 }
 
 #[test]
 fn sets_hold_offices_below_sixteen() -> Result<(), Fail> {
-    check(set(&[15]).contains(15))?;
-    check(!set(&[15]).contains(14))?;
-    check(!set(&[15]).contains(16))?;
-    check(!set(&ALL).contains(255))?;
-    check(set(&[16]).is_empty())?;
-    check(!set(&[0]).is_empty())?;
-    check(set(&[0, 1]).union(set(&[2])).holds_all(3))?;
-    check(!set(&[0, 2]).holds_all(3))?;
-    check(set(&ALL).holds_all(16))?;
-    check(!set(&ALL).holds_all(17))
+    for office in 0..=255 {
+        let one = set(&[office]);
+        // a number from 16 up is no office
+        check(one.contains(office) == (office < 16) && one.is_empty() == (office >= 16))?;
+        check(set(&ALL).contains(office) == (office < 16))?;
+        check(set(&ALL).holds_all(office) == (office <= 16))?;
+        check(one.holds_all(2) == false && one.union(set(&[0, 1])).holds_all(2))?;
+    }
+    Ok(())
 }
