@@ -1,11 +1,11 @@
 // Text tables, look-ups and notice lines.
 use notice::LONGEST_LINE;
-use notice::NoticeFaultFault;
-use notice::TextFaultFault;
+use notice::NoticeFaultRefusal;
+use notice::TextFaultRefusal;
 use notice::look_up;
 use notice::show_line;
 use notice::write_line;
-use refusals::Fault;
+use refusals::Refusal;
 use std::test::*;
 
 // A record of a table: its code, the length that it says, and its text.

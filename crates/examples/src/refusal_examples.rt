@@ -1,6 +1,6 @@
 // A refusal's line.
 use notice::NoticeFault;
-use notice::NoticeFaultFault;
+use notice::NoticeFaultRefusal;
 use notice::TextFault;
 use refusals::refusal_line;
 use std::test::*;

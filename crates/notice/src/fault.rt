@@ -2,7 +2,7 @@
 ghost use mathlib.Core.Path.{_≡_};
 ghost use Rattle.notice.specs.Faults.{text-number, notice-number};
 ghost use Rattle.notice.specs.declared.fault.NoticeFault.the-variants.{Text};
-use refusals::Fault;
+use refusals::Refusal;
 
 // What a look-up is refused for.
 #[derive(Clone, Copy, PartialEq, Eq)]
@@ -15,7 +15,7 @@ pub enum TextFault {
     Code,
 }
 
-pub impl Fault for TextFault as TextFaultFault {
+pub impl Refusal for TextFault as TextFaultRefusal {
     ghost number = { text-number };
 
     fn number(&self) -> u8 {
@@ -38,7 +38,7 @@ pub enum NoticeFault {
     Room,
 }
 
-pub impl Fault for NoticeFault as NoticeFaultFault {
+pub impl Refusal for NoticeFault as NoticeFaultRefusal {
     ghost number = { notice-number };
 
     fn number(&self) -> u8 {

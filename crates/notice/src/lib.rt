@@ -7,9 +7,9 @@ mod shown;
 mod table;
 
 pub use fault::NoticeFault;
-pub use fault::NoticeFaultFault;
+pub use fault::NoticeFaultRefusal;
 pub use fault::TextFault;
-pub use fault::TextFaultFault;
+pub use fault::TextFaultRefusal;
 pub use line::write_line;
 pub use lookup::look_up;
 pub use shown::LONGEST_LINE;

@@ -1,7 +1,7 @@
 // What a counter shows: the notice line, or the number of the question that refuses it.
 ghost use Prim.Native.Nat.{_≤_};
 ghost use Rattle.notice.specs.Lines.{Shown};
-use crate::fault::NoticeFaultFault;
+use crate::fault::NoticeFaultRefusal;
 use crate::line::write_line;
 use refusals::refusal_line;
 

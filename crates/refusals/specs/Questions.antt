@@ -16,8 +16,8 @@ abbrev pub Refuses : List (ℕ × Type 0) → ℕ → Type 0
 Refuses [] n = ⊥
 Refuses (q ∷ qs) n = ((q .1 → ⊥) × (n ≡ q .0)) ⊎ (q .1 × Refuses qs n)
 
--- a call that asks these questions: it gives a value only where each gets a yes, and then what `Given` says of the value holds;
--- else a fault with the number of the first that gets a no, and then what `Kept` says, that nothing changed, holds
+-- what a call answers that asks these questions: a value, of which `Given` holds, only where each question gets a yes;
+-- a fault, of which `number` gives the number, only where that is the number of the first that gets a no, and then `Kept` holds, that nothing changed
 abbrev pub Answers : {X E : Type 0} → List (ℕ × Type 0) → (E → ℕ) → (X → Type 0) → Type 0 → Result X E → Type 0
-Answers qs asked Given Kept (Ok x) = Passes qs × Given x
-Answers qs asked Given Kept (Err e) = Refuses qs (asked e) × Kept
+Answers qs number Given Kept (Ok x) = Passes qs × Given x
+Answers qs number Given Kept (Err e) = Refuses qs (number e) × Kept

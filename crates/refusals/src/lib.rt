@@ -1,13 +1,13 @@
-// Refusals: a call asks numbered questions in a fixed order, and the first that gets a no refuses
-// it, by its number and with nothing changed. A fault is the value that a refused call answers.
+// Refusals: a call asks numbered questions in a fixed order, and the first that gets a no refuses it.
+// The refused call answers a fault, which stands for that question, and changes nothing.
 ghost use mathlib.Core.Path.{_≡_};
 ghost use mathlib.Core.List.{[], _∷_, _++_};
 ghost use Prim.Native.Nat.{ℕ, _<_};
 ghost use Rattle.refusals.specs.Digits.{two-digits};
 
-// A fault: it stands for the question that got a no (in the field's terms, an error code).
-pub trait Fault: Sized {
-    // The number of that question.
+// A type of faults (in the field's terms, of error codes).
+pub trait Refusal: Sized {
+    // The number of the question that got a no.
     ghost number: { Self → ℕ };
 
     // A number has at most two digits.
@@ -18,8 +18,8 @@ pub trait Fault: Sized {
 }
 
 // The line that a program prints for a refusal: the number in two digits, and a line feed.
-pub fn refusal_line<F: Fault>(fault: &F) -> [u8; 3]
-    ensures { λ r. ⌜ r ≡ two-digits (F·Fault .number (now (fault .entry))) ++ (10 ∷ []) ⌝ }
+pub fn refusal_line<F: Refusal>(fault: &F) -> [u8; 3]
+    ensures { λ r. ⌜ r ≡ two-digits (F·Refusal .number (now (fault .entry))) ++ (10 ∷ []) ⌝ }
 {
     let n = fault.number();
     [b'0' + n / 10, b'0' + n % 10, b'\n']

@@ -19,16 +19,22 @@ pub trait Word: Sized {
 // A kind of word that can be summed: a join (a least upper bound, as in a semilattice) and an empty
 // word, its least element.
 pub trait Joining: Word {
+    // The empty word.
     ghost nil: { Self };
 
+    // What two words say together.
     ghost join: { Self → Self → Self };
 
+    // Joining is associative.
     law assoc: { (x y z : Self) → join (join x y) z ≡ join x (join y z) };
 
+    // It is commutative.
     law comm: { (x y : Self) → join x y ≡ join y x };
 
+    // It is idempotent.
     law idem: { (x : Self) → join x x ≡ x };
 
+    // The empty word changes nothing.
     law unit: { (x : Self) → join nil x ≡ x };
 
     fn empty() -> Self
