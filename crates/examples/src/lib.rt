@@ -3,6 +3,10 @@
 #[cfg(test)]
 mod notice_examples;
 #[cfg(test)]
+mod plan_examples;
+#[cfg(test)]
+mod post_examples;
+#[cfg(test)]
 mod refusal_examples;
 #[cfg(test)]
 mod word_examples;

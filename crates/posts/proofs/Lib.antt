@@ -1,0 +1,4 @@
+pub mod Boards
+pub mod Grids
+pub mod Layouts
+pub mod Uses
