@@ -187,3 +187,31 @@ fn offices_are_below_16() -> Result<(), Fail> {
     }
     Ok(())
 }
+
+#[test]
+fn the_longest_line_has_66_bytes() -> Result<(), Fail> {
+    let text = [b'z'; 62];
+    let english = pair(record(6, 62, &text), record(7, 1, b"x"));
+    let mut out = [b'.'; LONGEST_LINE];
+    check_eq(show_line(3, 6, &[], &english, &mut out), 66)?;
+    check(out[0] == b'0' && out[1] == b'3' && out[2] == b' ' && out[3] == b'z')?;
+    check(out[64] == b'z' && out[65] == b'\n')
+}
+
+// Whether a line that has room is refused by this number, and the output stays as it was.
+fn leaves_output(office: u8, code: u8, own: &[u8], number: u8) -> bool {
+    let mut out = [b'.'; 12];
+    let refused = match write_line(office, code, own, &[], &mut out) {
+        Ok(_) => 0,
+        Err(fault) => fault.number(),
+    };
+    refused == number && out == [b'.'; 12]
+}
+
+#[test]
+fn a_refusal_leaves_the_output() -> Result<(), Fail> {
+    let good = pair(record(6, 5, b"Bring"), record(7, 1, b"x"));
+    let bad = pair(record(6, 5, b"Bring"), record(7, 0, b""));
+    check(leaves_output(16, 6, &good, 5) && leaves_output(0, 6, &good[0..65], 25))?;
+    check(leaves_output(0, 6, &bad, 26) && leaves_output(0, 8, &good, 27))
+}

@@ -68,13 +68,25 @@ fn exchanges<W: Word + Copy, P: Post<W>>(post: &mut P, a: W, b: W) -> Result<(),
     // a second word that differs, and one that is the same
     check(posts(post, 0, 1, 1, b) == 33 && posts(post, 0, 1, 1, a) == 34)?;
     check(posts(post, 0, 2, 1, b) == 33 && posts(post, 0, 2, 1, a) == 0)?;
-    // another sender is free
+    // another sender may post another word
     check(posts(post, 15, 0, 1, b) == 0 && takes(post, 15, 0, 1, &b) == 0)?;
     // a word is taken once, and counts as the sender's word after that
     check(takes(post, 0, 1, 1, &a) == 0 && takes(post, 0, 1, 1, &a) == 35)?;
     check(posts(post, 0, 1, 1, b) == 33 && posts(post, 0, 1, 1, a) == 34)?;
     check(posts(post, 0, 3, 1, b) == 33 && takes(post, 1, 0, 1, &a) == 35)?;
-    check(!any_waiting(post, 0, 1) && any_waiting(post, 0, 2) && ever_posted(post))
+    check(!any_waiting(post, 0, 1) && any_waiting(post, 0, 2) && ever_posted(post))?;
+    // the taken word stays in its place, and the other waits still
+    let taken = post.place(0, 1, 1);
+    check(!taken.is_empty() && !taken.is_waiting() && taken.agrees_with(&a))?;
+    check(!taken.agrees_with(&b) && post.place(0, 2, 1).is_waiting())
+}
+
+// Outside legal offices and rounds a place is empty and no word waits, whatever was posted.
+fn empty_outside<W: Word + Copy, P: Post<W>>(post: &P, reach: u8) -> Result<(), Fail> {
+    check(post.place(0, 2, 0).is_empty() && post.place(0, 2, reach.saturating_add(1)).is_empty())?;
+    check(post.place(16, 2, 1).is_empty() && post.place(0, 16, 1).is_empty())?;
+    check(post.place(0, 255, 1).is_empty() && post.place(2, 2, 1).is_empty())?;
+    check(!any_waiting(post, 16, 2) && !any_waiting(post, 0, 255) && !any_waiting(post, 2, 2))
 }
 
 // The last round that the post reaches, and the first that it does not.
@@ -89,6 +101,7 @@ fn tried<W: Word + Copy, P: Post<W>>(post: &mut P, reach: u8, a: W, b: W) -> Res
         return check(refuses(post, 0, 1, 1, a, 32));
     }
     exchanges(post, a, b)?;
+    empty_outside(post, reach)?;
     last_round(post, reach, a)
 }
 

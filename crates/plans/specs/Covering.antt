@@ -13,6 +13,6 @@ abbrev pub Knows : Talk → ℕ → ℕ → ℕ → Type 0
 Knows talk zero i j = i ≡ j
 Knows talk (suc m) i j = Knows talk m i j ⊎ ((s : ℕ) × (talk (suc m) s i ≡ true) × Knows talk m s j)
 
--- after h rounds each of n offices knows of all n
+-- covering (in the field's terms, full information exchange): after h rounds each of n offices knows of all n
 abbrev pub Covers : Talk → ℕ → ℕ → Type 0
 Covers talk n h = (i j : ℕ) → i < n → j < n → Knows talk h i j

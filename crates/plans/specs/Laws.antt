@@ -1,4 +1,4 @@
--- What every plan owes. Assumes nothing.
+-- The laws of a plan. Assumes nothing.
 use mathlib.Core.Bool.{true}
 use mathlib.Core.Path.{_≡_}
 use Prim.Native.Nat.{ℕ, _≤_}
@@ -6,7 +6,7 @@ use Rattle.plans.specs.Covering.{Talk, Covers}
 use Rattle.plans.specs.Pairs.{Proper}
 use Rattle.plans.specs.Serving.{Serves}
 
--- what a plan owes that has these rounds and names these pairs, for every number n of offices
+-- what holds of a plan that has these rounds and names these pairs, for every number n of offices
 pub record PlanLaws (rounds : ℕ → ℕ) (names : ℕ → Talk) : Type 0 where
   -- it has at most 16 rounds
   pub few : (n : ℕ) → rounds n ≤ 16

@@ -4,8 +4,8 @@ ghost use Rattle.plans.specs.Cube.{cube-rounds, cube-names, Logarithm};
 use crate::plan::Plan;
 use crate::plan::is_proper;
 
-// For 2, 4, 8 or 16 offices as many rounds as their numbers have bits, in each of which those whose
-// numbers differ in exactly one bit speak to each other (in the field's terms, a hypercube).
+// For 2, 4, 8 or 16 offices as many rounds as the base-2 logarithm of their number, in each of which
+// those whose numbers differ in exactly one bit speak to each other (in the field's terms, a hypercube).
 #[derive(Clone, Copy)]
 pub struct Cube;
 

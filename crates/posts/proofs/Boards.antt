@@ -79,15 +79,23 @@ module _ {W : Type 0} (memory memory′ : List (BoardEntry W)) (s r k at : ℕ) 
   low : (r′ : ℕ) → legal s r′ ≡ true → r′ < 16
   low r′ pair′ = grind (arith, tells)
 
-  pub board-posted : (alike : W → W → Bool) → ((x y : W) → Decides (alike x y) (x ≡ y)) → memory′ ≡ set memory at (entry-posted (getD memory at blank-entry) r w) → consistent alike (places-of board memory) s k w ≡ true → vacant (places-of board memory s r k) ≡ true → (reach-of board memory′ ≡ reach-of board memory) × (places-of board memory′ ≡ put (places-of board memory) s r k (Waiting w))
-  board-posted alike exact wrote agree free =
+  pub board-posted : (alike : W → W → Bool) → ((x y : W) → Decides (alike x y) (x ≡ y)) → (old new : BoardEntry W) → old ≡ getD memory at blank-entry → new ≡ entry-posted old r w → memory′ ≡ set memory at new → consistent alike (places-of board memory) s k w ≡ true → vacant (places-of board memory s r k) ≡ true → (reach-of board memory′ ≡ reach-of board memory) × (places-of board memory′ ≡ put (places-of board memory) s r k (Waiting w))
+  board-posted alike exact old new read made wrote agree free =
       let e = getD memory at blank-entry in
-      written (entry-posted e r w) (Waiting w) wrote (posted-mine w r (low r pair) (e .word) (e .addressed) (e .taken) (sym (ap vacant (said r pair)) ∙ free))
+      let wrote′ = wrote ∙ ap (set memory at) (made ∙ ap (λ y. entry-posted y r w) read) in
+      written (entry-posted e r w) (Waiting w) wrote′ (posted-mine w r (low r pair) (e .word) (e .addressed) (e .taken) (sym (ap vacant (said r pair)) ∙ free))
       (λ r′ pair′ other.
       let agreed = every-decides (λ q. agrees alike w (places-of board memory s q k)) 16 .0 agree r′ (low r′ pair′) in
       posted-others w r (low r pair) r′ other alike exact (e .word) (e .addressed) (e .taken) (sym (ap (agrees alike w) (said r′ pair′)) ∙ agreed))
 
-  pub board-took : memory′ ≡ set memory at (entry-taken (getD memory at blank-entry) r) → places-of board memory s r k ≡ Waiting w → (reach-of board memory′ ≡ reach-of board memory) × (places-of board memory′ ≡ put (places-of board memory) s r k (Taken w))
-  board-took wrote here =
+  pub board-took : (old new : BoardEntry W) → old ≡ getD memory at blank-entry → new ≡ entry-taken old r → memory′ ≡ set memory at new → places-of board memory s r k ≡ Waiting w → (reach-of board memory′ ≡ reach-of board memory) × (places-of board memory′ ≡ put (places-of board memory) s r k (Taken w))
+  board-took old new read made wrote here =
       let e = getD memory at blank-entry in
-      written (entry-taken e r) (Taken w) wrote (took-mine w r (low r pair) (e .word) (e .addressed) (e .taken) (sym (said r pair) ∙ here)) (λ r′ pair′ other. took-others w r (low r pair) r′ other e)
+      let wrote′ = wrote ∙ ap (set memory at) (made ∙ ap (λ y. entry-taken y r) read) in
+      written (entry-taken e r) (Taken w) wrote′ (took-mine w r (low r pair) (e .word) (e .addressed) (e .taken) (sym (said r pair) ∙ here)) (λ r′ pair′ other. took-others w r (low r pair) r′ other e)
+
+-- a place that is read off the board
+pub board-read : {W : Type 0} (memory : List (BoardEntry W)) (s r k at reach : ℕ) (pair round : Bool) (e : BoardEntry W) (x : Place W) → reach ≡ reach-of board memory → pair ≡ legal s r → pair ≡ true → round ≡ within reach k → round ≡ true → at ≡ place-index (board {W = W}) s r k → ((d : BoardEntry W) → e ≡ getD memory at d) → x ≡ entry-says e r → x ≡ places-of board memory s r k
+board-read memory s r k at reach pair round e x far is-pair lawful is-round inside is read says =
+    let within-reach = ap (λ n. within n k) (sym far) ∙ sym is-round ∙ inside in
+    says ∙ ap (λ y. entry-says y r) (read blank-entry ∙ ap (λ i. getD memory i blank-entry) is) ∙ sym (says-at board board-sound memory s r k (sym is-pair ∙ lawful) within-reach)

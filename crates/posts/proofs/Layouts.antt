@@ -15,7 +15,7 @@ use Rattle.std.proofs.shelf.Ways.{tells}
 use Rattle.posts.specs.declared.place.Place.{Place}
 use Rattle.posts.specs.declared.place.Place.the-variants.{Empty}
 use Rattle.posts.specs.Layouts.{Layout, reach-of, index-of, places-of}
-use Rattle.posts.specs.Places.{legal, within, put, nowhere}
+use Rattle.posts.specs.Places.{legal, within, put, no-words}
 
 -- what a layout owes: each legal pair has a slot of the round, a slot has one sender, and the blank entry says nothing
 pub record Sound {E W : Type 0} (layout : Layout E W) : Type 0 where
@@ -108,7 +108,7 @@ module _ {E W : Type 0} (layout : Layout E W) (sound : Sound layout) where
       places-set i s′ r′ k′ = set-at s′ r′ k′ i
 
   -- a memory of blank entries
-  pub cleared : (memory memory′ : List E) → memory′ ≡ replicate (length memory) (layout .blank) → (reach-of layout memory′ ≡ reach-of layout memory) × (places-of layout memory′ ≡ nowhere)
+  pub cleared : (memory memory′ : List E) → memory′ ≡ replicate (length memory) (layout .blank) → (reach-of layout memory′ ≡ reach-of layout memory) × (places-of layout memory′ ≡ no-words)
   unfolding places-of
   cleared memory memory′ is = (ap (λ n. min 32 (n / layout .size)) (ap length is ∙ length-replicate n (layout .blank)), λ i s r k. none s r k i)
     where

@@ -1,6 +1,6 @@
 -- The questions that posting and taking ask, and what they answer and leave. Assumes nothing.
 use mathlib.Core.Path.{_≡_}
-use mathlib.Core.Bool.{Bool, true}
+use mathlib.Core.Bool.{true}
 use mathlib.Core.List.{List, [], _∷_}
 use Prim.Native.Nat.{ℕ}
 use Rattle.std.specs.declared.result.Result.{Result}
@@ -9,14 +9,14 @@ use Rattle.posts.specs.declared.place.Place.the-variants.{Waiting, Taken}
 use Rattle.posts.specs.declared.fault.PostFault.{PostFault}
 use Rattle.posts.specs.declared.fault.PostFault.the-variants.{Offices, Round, OtherWord, Filled, NothingWaits}
 use Rattle.posts.specs.Faults.{post-number}
-use Rattle.posts.specs.Places.{Places, put, vacant, waits, legal, within, consistent}
+use Rattle.posts.specs.Places.{Places, put, vacant, waits, legal, within, Consistent}
 
 -- the questions of posting w from s to r in round k, in their order, of a post with these places and this reach
-abbrev pub post-questions : {W : Type 0} → (W → W → Bool) → Places W → ℕ → ℕ → ℕ → ℕ → W → List (ℕ × Type 0)
-post-questions alike p reach s r k w =
+abbrev pub post-questions : {W : Type 0} → Places W → ℕ → ℕ → ℕ → ℕ → W → List (ℕ × Type 0)
+post-questions p reach s r k w =
     (post-number Offices, legal s r ≡ true)
     ∷ (post-number Round, within reach k ≡ true)
-    ∷ (post-number OtherWord, consistent alike p s k w ≡ true)
+    ∷ (post-number OtherWord, Consistent p s k w)
     ∷ (post-number Filled, vacant (p s r k) ≡ true)
     ∷ []
 
@@ -29,8 +29,8 @@ take-questions p reach s r k =
     ∷ []
 
 -- what posting answers, and which places it leaves: the word waits in its place, or nothing changed
-abbrev pub Posted : {W : Type 0} → (W → W → Bool) → Places W → ℕ → ℕ → ℕ → ℕ → W → Places W → Result (Unit {0}) PostFault → Type 0
-Posted alike p reach s r k w p′ = Answers (post-questions alike p reach s r k w) post-number (λ _. p′ ≡ put p s r k (Waiting w)) (p′ ≡ p)
+abbrev pub Posted : {W : Type 0} → Places W → ℕ → ℕ → ℕ → ℕ → W → Places W → Result (Unit {0}) PostFault → Type 0
+Posted p reach s r k w p′ = Answers (post-questions p reach s r k w) post-number (λ _. p′ ≡ put p s r k (Waiting w)) (p′ ≡ p)
 
 -- what taking answers, and which places it leaves: the word that waited is given and is now taken, or nothing changed
 abbrev pub Took : {W : Type 0} → Places W → ℕ → ℕ → ℕ → ℕ → Places W → Result W PostFault → Type 0

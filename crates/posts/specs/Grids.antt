@@ -1,5 +1,5 @@
 -- The grid: an entry for each place. Assumes nothing.
-use Prim.Native.Nat.{ℕ, _+_, _*_}
+use Prim.Native.Nat.{_+_, _*_}
 use Rattle.posts.specs.declared.place.Place.{Place}
 use Rattle.posts.specs.declared.place.Place.the-variants.{Empty}
 use Rattle.posts.specs.Layouts.{Layout}

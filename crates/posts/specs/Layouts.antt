@@ -1,5 +1,4 @@
 -- How a memory of entries stands for places. Assumes nothing.
-use mathlib.Core.Path.{_≡_}
 use mathlib.Core.Bool.{cond, _&&_}
 use mathlib.Core.List.{List}
 use Prim.Native.Nat.{ℕ, _+_, _-_, _*_, _/_, min}
@@ -30,7 +29,7 @@ unfoldable pub places-of : {E W : Type 0} → Layout E W → List E → Places W
 places-of layout memory s r k =
     cond (legal s r && within (reach-of layout memory) k) (layout .says (getD memory (index-of (layout .size) (layout .slot s r) k) (layout .blank)) r) Empty
 
--- it keeps what every post owes
+-- what a layout says of any memory keeps the laws of a post
 pub layout-laws : {P E W : Type 0} (layout : Layout E W) (memory : P → List E) → PostLaws (λ p. places-of layout (memory p)) (λ p. reach-of layout (memory p))
 unfolding places-of
 layout-laws layout memory = record {

@@ -1,7 +1,6 @@
 -- Places, and what is asked of them. Assumes nothing.
 use mathlib.Core.Path.{_≡_}
 use mathlib.Core.Bool.{Bool, true, false, not, cond, _&&_}
-use mathlib.Core.Logic.{_⊎_}
 use Prim.Native.Nat.{ℕ, _≤_}
 use lib.Dec.{eqb, ltb, leb}
 use Rattle.words.specs.Below.{every}
@@ -13,8 +12,8 @@ abbrev pub Places : Type 0 → Type 0
 Places W = ℕ → ℕ → ℕ → Place W
 
 -- a post with nothing in it
-abbrev pub nowhere : {W : Type 0} → Places W
-nowhere s r k = Empty
+abbrev pub no-words : {W : Type 0} → Places W
+no-words s r k = Empty
 
 -- one place holds x, and all others are as before
 abbrev pub put : {W : Type 0} → Places W → ℕ → ℕ → ℕ → Place W → Places W
@@ -68,7 +67,7 @@ Waits-from {W} p s r = (k : ℕ) × (w : W) × (p s r k ≡ Waiting w)
 abbrev pub Used : {W : Type 0} → Places W → Type 0
 Used {W} p = (s r k : ℕ) × (w : W) × Holds (p s r k) w
 
--- what every post owes: its reach is at most 32, and outside legal offices and rounds a place is empty
+-- what holds of every post: its reach is at most 32, and outside legal offices and rounds a place is empty
 pub record PostLaws {P W : Type 0} (places : P → Places W) (reach : P → ℕ) : Type 0 where
   pub short : (p : P) → reach p ≤ 32
   pub outside : (p : P) (s r k : ℕ) → (legal s r && within (reach p) k) ≡ false → places p s r k ≡ Empty

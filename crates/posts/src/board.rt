@@ -1,12 +1,12 @@
 // The board: an entry for each sender and round, with the word, who is addressed and who has taken it.
 ghost use mathlib.Core.Path.{_≡_};
-ghost use mathlib.Core.Bool.{true, _&&_};
+ghost use mathlib.Core.Bool.{true};
 ghost use Prim.Native.Nat.{_<_};
-ghost use lib.ListN.{length, getD};
+ghost use lib.ListN.{length, getD, replicate};
 ghost use denote.Ref.{now};
 ghost use Rattle.posts.specs.Boards.{board, blank-entry, entry-says, entry-posted, entry-taken};
 ghost use Rattle.posts.specs.Layouts.{places-of, reach-of, index-of, layout-laws};
-ghost use Rattle.posts.specs.Places.{legal, within, nowhere};
+ghost use Rattle.posts.specs.Places.{within, no-words};
 use crate::fault::PostFault;
 use crate::fill::Fill;
 use crate::fill::post_into;
@@ -22,6 +22,9 @@ use crate::questions::legal_pair;
 use crate::questions::round_within;
 use words::Offices;
 use words::Word;
+
+// The entries of a round.
+const ROUND: usize = 16;
 
 // One entry of a board: a sender's word of a round, who is addressed, and who has taken it.
 #[derive(Clone, Copy)]
@@ -93,7 +96,7 @@ impl<W: Word + Copy> BoardEntry<W> {
     }
 }
 
-// A post over a lent memory of such entries, 16 for a round.
+// A post over a lent memory of such entries, 16 for a round (in the field's terms, a bulletin board).
 #[derive(Drop)]
 pub struct Board<'a, W> {
     memory: &'a mut [BoardEntry<W>],
@@ -102,8 +105,9 @@ pub struct Board<'a, W> {
 impl<'a, W: Word + Copy> Board<'a, W> {
     // A board over this memory, which is emptied. Any length will do, and gives the reach.
     pub fn new(memory: &'a mut [BoardEntry<W>]) -> Board<'a, W>
-        ensures places { λ r. ⌜ places-of board (now (r .memory)) ≡ nowhere ⌝ }
+        ensures places { λ r. ⌜ places-of board (now (r .memory)) ≡ no-words ⌝ }
         ensures reach { λ r. ⌜ reach-of board (now (r .memory)) ≡ reach-of board (now (memory .entry)) ⌝ }
+        ensures memory { λ r. ⌜ now (r .memory) ≡ replicate (length (now (memory .entry))) blank-entry ⌝ }
     {
         empty_board(memory);
         Board { memory }
@@ -119,8 +123,9 @@ impl<'a, W: Word + Copy> Board<'a, W> {
 
 // Empties each entry of the memory.
 fn empty_board<W: Word + Copy>(memory: &mut [BoardEntry<W>])
-    ensures places { λ _. ⌜ places-of board (now (memory .exit)) ≡ nowhere ⌝ }
+    ensures places { λ _. ⌜ places-of board (now (memory .exit)) ≡ no-words ⌝ }
     ensures reach { λ _. ⌜ reach-of board (now (memory .exit)) ≡ reach-of board (now (memory .entry)) ⌝ }
+    ensures memory { λ _. ⌜ now (memory .exit) ≡ replicate (length (now (memory .entry))) blank-entry ⌝ }
 {
     clear(memory, BoardEntry::blank());
 }
@@ -131,7 +136,7 @@ fn board_at(sender: u8, round: u8) -> usize
     requires round { ⌜ within 32 round ≡ true ⌝ }
     ensures { λ r. ⌜ r ≡ index-of 16 sender round ⌝ }
 {
-    (round as usize - 1) * 16 + sender as usize
+    (round as usize - 1) * ROUND + sender as usize
 }
 
 // What the memory holds in a place.
@@ -143,7 +148,7 @@ fn board_place<W: Word + Copy>(
 ) -> Place<W>
     ensures { λ r. ⌜ r ≡ places-of board (now (memory .entry)) sender receiver round ⌝ }
 {
-    let reach = rounds_of(memory.len(), 16);
+    let reach = rounds_of(memory.len(), ROUND);
     if legal_pair(sender, receiver) && round_within(reach, round) {
         let at = board_at(sender, round);
         entry(memory, at).place(receiver)
@@ -164,7 +169,7 @@ pub impl<'a, W: Word + Copy> PostView<W> for Board<'a, W> as BoardView {
     }
 
     fn reach(&self) -> u8 {
-        rounds_of(self.memory.len(), 16)
+        rounds_of(self.memory.len(), ROUND)
     }
 }
 

@@ -1,4 +1,4 @@
-// A memory of places that can be filled and marked, and how it posts and takes.
+// How the posts of this crate write, and how they post and take.
 ghost use mathlib.Core.Path.{_≡_};
 ghost use mathlib.Core.Bool.{true};
 ghost use Rattle.posts.specs.declared.place.Place.the-variants.{Waiting, Taken};
@@ -41,7 +41,7 @@ pub(crate) fn post_into<W: Word + Copy, P: Fill<W>>(
     word: W,
 ) -> Result<(), PostFault>
     ensures reach { λ _. ⌜ P·PostView .reach (now (post .exit)) ≡ P·PostView .reach (now (post .entry)) ⌝ }
-    ensures answer { λ r. ⌜ Posted (W·Word .alike) (P·PostView .places (now (post .entry))) (P·PostView .reach (now (post .entry))) sender receiver round word (P·PostView .places (now (post .exit))) r ⌝ }
+    ensures answer { λ r. ⌜ Posted (P·PostView .places (now (post .entry))) (P·PostView .reach (now (post .entry))) sender receiver round word (P·PostView .places (now (post .exit))) r ⌝ }
 {
     if !legal_pair(sender, receiver) {
         return Err(PostFault::Offices);

@@ -2,10 +2,12 @@
 ghost use mathlib.Core.Path.{_≡_};
 ghost use mathlib.Core.Bool.{true, _&&_};
 ghost use Prim.Native.Nat.{_+_, _*_};
+ghost use lib.ListN.{length, replicate};
 ghost use denote.Ref.{now};
+ghost use Rattle.posts.specs.declared.place.Place.the-variants.{Empty};
 ghost use Rattle.posts.specs.Grids.{grid};
 ghost use Rattle.posts.specs.Layouts.{places-of, reach-of, index-of, layout-laws};
-ghost use Rattle.posts.specs.Places.{legal, within, nowhere};
+ghost use Rattle.posts.specs.Places.{legal, within, no-words};
 use crate::fault::PostFault;
 use crate::fill::Fill;
 use crate::fill::post_into;
@@ -21,7 +23,10 @@ use crate::questions::legal_pair;
 use crate::questions::round_within;
 use words::Word;
 
-// A post over a lent memory of places, 256 for a round.
+// The entries of a round.
+const ROUND: usize = 256;
+
+// A post over a lent memory of places, 256 for a round (in the field's terms, point-to-point buffers).
 #[derive(Drop)]
 pub struct Grid<'a, W> {
     memory: &'a mut [Place<W>],
@@ -30,8 +35,9 @@ pub struct Grid<'a, W> {
 impl<'a, W: Word + Copy> Grid<'a, W> {
     // A grid over this memory, which is emptied. Any length will do, and gives the reach.
     pub fn new(memory: &'a mut [Place<W>]) -> Grid<'a, W>
-        ensures places { λ r. ⌜ places-of grid (now (r .memory)) ≡ nowhere ⌝ }
+        ensures places { λ r. ⌜ places-of grid (now (r .memory)) ≡ no-words ⌝ }
         ensures reach { λ r. ⌜ reach-of grid (now (r .memory)) ≡ reach-of grid (now (memory .entry)) ⌝ }
+        ensures memory { λ r. ⌜ now (r .memory) ≡ replicate (length (now (memory .entry))) Empty ⌝ }
     {
         empty_grid(memory);
         Grid { memory }
@@ -40,8 +46,9 @@ impl<'a, W: Word + Copy> Grid<'a, W> {
 
 // Empties each place of the memory.
 fn empty_grid<W: Word + Copy>(memory: &mut [Place<W>])
-    ensures places { λ _. ⌜ places-of grid (now (memory .exit)) ≡ nowhere ⌝ }
+    ensures places { λ _. ⌜ places-of grid (now (memory .exit)) ≡ no-words ⌝ }
     ensures reach { λ _. ⌜ reach-of grid (now (memory .exit)) ≡ reach-of grid (now (memory .entry)) ⌝ }
+    ensures memory { λ _. ⌜ now (memory .exit) ≡ replicate (length (now (memory .entry))) Empty ⌝ }
 {
     clear(memory, Place::Empty);
 }
@@ -51,14 +58,14 @@ fn grid_at(sender: u8, receiver: u8, round: u8) -> usize
     requires { ⌜ (legal sender receiver && within 32 round) ≡ true ⌝ }
     ensures { λ r. ⌜ r ≡ index-of 256 (sender * 16 + receiver) round ⌝ }
 {
-    (round as usize - 1) * 256 + (sender as usize * 16 + receiver as usize)
+    (round as usize - 1) * ROUND + (sender as usize * 16 + receiver as usize)
 }
 
 // What the memory holds in a place.
 fn grid_place<W: Word + Copy>(memory: &[Place<W>], sender: u8, receiver: u8, round: u8) -> Place<W>
     ensures { λ r. ⌜ r ≡ places-of grid (now (memory .entry)) sender receiver round ⌝ }
 {
-    let reach = rounds_of(memory.len(), 256);
+    let reach = rounds_of(memory.len(), ROUND);
     if legal_pair(sender, receiver) && round_within(reach, round) {
         let at = grid_at(sender, receiver, round);
         entry(memory, at)
@@ -79,7 +86,7 @@ pub impl<'a, W: Word + Copy> PostView<W> for Grid<'a, W> as GridView {
     }
 
     fn reach(&self) -> u8 {
-        rounds_of(self.memory.len(), 256)
+        rounds_of(self.memory.len(), ROUND)
     }
 }
 

@@ -1,6 +1,5 @@
 // What is asked of any post.
 ghost use mathlib.Core.Path.{_≡_};
-ghost use Prim.Native.Nat.{_≤_};
 ghost use Rattle.std.specs.Orderings.{Decides};
 ghost use Rattle.posts.specs.Places.{legal, within, consistent, Consistent, Waits-from, Used};
 ghost use Rattle.posts.specs.Tests.{some-waits, sent, sent-to};

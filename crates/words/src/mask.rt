@@ -13,6 +13,14 @@ pub(crate) fn bit_at(mask: u16, place: u8) -> bool
     place < 16 && (mask >> place) % 2 == 1
 }
 
+// The mask without bits.
+pub(crate) fn no_bits() -> u16
+    ensures value { λ r. ⌜ r ≡ 0 ⌝ }
+    ensures bits { λ r. ⌜ No-bit r ⌝ }
+{
+    0
+}
+
 // The mask with the bit at this place alone, or with none where there is no such place.
 pub(crate) fn lone_bit(place: u8) -> u16
     ensures value { λ r. ⌜ r ≡ lone place ⌝ }

@@ -7,6 +7,7 @@ use crate::mask::either;
 use crate::mask::first_bits;
 use crate::mask::lone_bit;
 use crate::mask::no_bit;
+use crate::mask::no_bits;
 
 // A set of offices (in the field's terms, sites), which are numbered 0 to 15.
 #[derive(Clone, Copy, PartialEq, Eq)]
@@ -17,9 +18,10 @@ pub struct Offices {
 impl Offices {
     // The set without members.
     pub fn none() -> Offices
-        ensures { λ r. ⌜ r ≡ none ⌝ }
+        ensures value { λ r. ⌜ r ≡ none ⌝ }
+        ensures members { λ r. ⌜ Vacant r ⌝ }
     {
-        Offices { mask: 0 }
+        Offices { mask: no_bits() }
     }
 
     pub fn contains(&self, office: u8) -> bool

@@ -50,6 +50,15 @@ pub fn sum<W: Joining + Copy>(words: &[W]) -> W
     ensures bound { λ r. ⌜ Least-bound join (now (words .entry)) r ⌝ }
     ensures any_order { λ r. ⌜ Any-order nil join (now (words .entry)) r ⌝ }
 {
+    folded(words)
+}
+
+// Joins the words to the empty word, one after another.
+fn folded<W: Joining + Copy>(words: &[W]) -> W
+    ensures value { λ r. ⌜ r ≡ sum-of nil join (now (words .entry)) ⌝ }
+    ensures bound { λ r. ⌜ Least-bound join (now (words .entry)) r ⌝ }
+    ensures any_order { λ r. ⌜ Any-order nil join (now (words .entry)) r ⌝ }
+{
     let mut total = W::empty();
     for word in words {
         total = total.joined(*word);

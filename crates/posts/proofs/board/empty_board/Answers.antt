@@ -9,4 +9,4 @@ pub returns : need.returns
 returns g c =
     let blanks = c .clear .ensures ∙ ap (replicate (length (c .args .memory .now))) (c .blank .ensures) in
     let done = cleared board board-sound (c .args .memory .now) (c .clear .last .memory) blanks in
-    record { places = done .1; reach = done .0 }
+    record { places = done .1; reach = done .0; memory = blanks }

@@ -4,7 +4,7 @@ use lib.Seq.{take-all}
 use borrow.Author.Needs.{needs}
 use Rattle.words.specs.Sum.{sum-of}
 use Rattle.words.proofs.Sums.{sum-more, sum-bound, sum-any-order}
-use Rattle.words.proofs.word.sum.Needs as need
+use Rattle.words.proofs.word.folded.Needs as need
 
 pub loop-word-again : need.loop-word-again
 loop-word-again g c =
