@@ -25,13 +25,12 @@ use Rattle.plans.proofs.Pairs.{proper-decides}
 covered : (ℕ → ℕ) → (ℕ → Talk) → ℕ → Bool
 covered rounds names n = eqb (rounds n) 0 || full (names n) n (rounds n)
 
--- a plan that keeps the bounds and covers each number of offices up to 16 keeps the laws
-kept : (rounds : ℕ → ℕ) (names : ℕ → Talk) → ((n : ℕ) → rounds n ≤ 16) → ((n : ℕ) → Serves rounds n → (2 ≤ n) × (n ≤ 16)) →
+-- a plan of at most 16 offices that names proper pairs and covers each number of offices up to 16 keeps the laws
+kept : (rounds : ℕ → ℕ) (names : ℕ → Talk) → ((n : ℕ) → rounds n ≤ 16) → ((n : ℕ) → Serves rounds n → n ≤ 16) →
     ((n r s l : ℕ) → names n r s l ≡ true → proper n (rounds n) r s l ≡ true) → every 17 (covered rounds names) ≡ true → PlanLaws rounds names
 unfolding covered
 kept rounds names few sizes bounded passed = record {
   few = few;
-  sizes = sizes;
   proper = pairs;
   covers = λ n h.
       let size = sizes n h in
@@ -68,7 +67,6 @@ cube-laws = kept cube-rounds cube-names (λ n. grind (arith, tells)) (λ n h. gr
 none-laws : PlanLaws (λ n. 0) (λ n r s l. false)
 none-laws = record {
   few = λ n. omega arith;
-  sizes = λ n h. absurd (omega arith);
   proper = λ n r s l e. absurd (false≢true e);
   covers = λ n h. absurd (omega arith);
 }

@@ -10,8 +10,6 @@ use Rattle.plans.specs.Serving.{Serves}
 pub record PlanLaws (rounds : ℕ → ℕ) (names : ℕ → Talk) : Type 0 where
   -- it has at most 16 rounds
   pub few : (n : ℕ) → rounds n ≤ 16
-  -- it serves only 2 to 16 offices
-  pub sizes : (n : ℕ) → Serves rounds n → (2 ≤ n) × (n ≤ 16)
   -- whoever it names is proper: the round is one of its rounds, and the two are two of the n offices
   pub proper : (n r s l : ℕ) → names n r s l ≡ true → Proper n (rounds n) r s l
   -- where it serves n, each of n offices knows of all n after its last round

@@ -11,12 +11,12 @@ use Rattle.std.specs.Orderings.{Decides}
 use Rattle.std.specs.declared.option.Option.{Option}
 use Rattle.std.specs.declared.option.Option.the-variants.{Some, None}
 use Rattle.words.specs.declared.Offices.{Offices}
-use Rattle.words.specs.Offices.{member, none, added}
+use Rattle.words.specs.Offices.{member, none}
 use Rattle.words.proofs.Below.{every-decides}
 use Rattle.words.proofs.Members.{member-none, added-self, added-other}
 use Rattle.posts.specs.declared.board.BoardEntry.{BoardEntry}
 use Rattle.posts.specs.declared.place.Place.{Place}
-use Rattle.posts.specs.declared.place.Place.the-variants.{Empty, Waiting, Taken}
+use Rattle.posts.specs.declared.place.Place.the-variants.{Waiting, Taken}
 use Rattle.posts.specs.Boards.{board, blank-entry, place-by, entry-says, entry-posted, entry-taken}
 use Rattle.posts.specs.Layouts.{reach-of, places-of}
 use Rattle.posts.specs.Places.{legal, within, put, consistent, agrees, vacant}

@@ -1,9 +1,9 @@
 -- What a write of one entry means, for every layout. Assumes nothing.
-use mathlib.Core.Path.{_≡_, refl, sym, ap, _∙_}
-use mathlib.Core.Bool.{Bool, true, false, not, cond, _&&_}
+use mathlib.Core.Path.{_≡_, sym, ap, _∙_}
+use mathlib.Core.Bool.{true, false, cond, _&&_}
 use mathlib.Core.List.{List}
 use mathlib.Core.Logic.{_≢_, ⊎-elim}
-use Prim.Native.Nat.{ℕ, _+_, _-_, _*_, _/_, _%_, _<_, min}
+use Prim.Native.Nat.{ℕ, _-_, _/_, _%_, _<_, min}
 use native.Mathlib.Nat.{div-mul-le-self}
 use native.Mathlib.Omega.{arith}
 use lib.Arith.{digits-lt, digits-div, digits-mod}
@@ -17,7 +17,7 @@ use Rattle.posts.specs.declared.place.Place.the-variants.{Empty}
 use Rattle.posts.specs.Layouts.{Layout, reach-of, index-of, places-of}
 use Rattle.posts.specs.Places.{legal, within, put, no-words}
 
--- what a layout owes: each legal pair has a slot of the round, a slot has one sender, and the blank entry says nothing
+-- what a layout has to satisfy: each legal pair has a slot of the round, a slot has one sender, and the blank entry says nothing
 pub record Sound {E W : Type 0} (layout : Layout E W) : Type 0 where
   pub fits : (s r : ℕ) → legal s r ≡ true → layout .slot s r < layout .size
   pub sender : (s r s′ r′ : ℕ) → legal s r ≡ true → legal s′ r′ ≡ true → layout .slot s r ≡ layout .slot s′ r′ → s ≡ s′

@@ -1,13 +1,13 @@
 -- Bits of masks. Assumes nothing.
 use mathlib.Core.Path.{_≡_, refl, sym, ap, _∙_}
-use mathlib.Core.Bool.{Bool, true, false, cond, _||_, _&&_}
+use mathlib.Core.Bool.{true, false, _||_, _&&_}
 use mathlib.Core.Logic.{_≢_, inl, inr}
-use Prim.Native.Nat.{ℕ, zero, suc, _+_, _*_, _/_, _%_, _^_, _≤_, _<_, max}
+use Prim.Native.Nat.{ℕ, zero, suc, _*_, _/_, _%_, _^_, _≤_, _<_, max}
 use native.Mathlib.Nat.{zero-div, pow-suc, div-eq-of-lt}
 use native.Mathlib.Numerals.{one-add}
 use native.Mathlib.Omega.{arith}
 use lib.Arith.{bin-ind}
-use lib.Bits.{bitOr, or-step, or-shr, or-comm, or-self}
+use lib.Bits.{bitOr, or-step, or-shr}
 use lib.Dec.{eqb, ltb}
 use lib.Pow.{pow-mono}
 use Rattle.std.proofs.shelf.Bits.{shr-shr, pow-below}
