@@ -1,6 +1,8 @@
 // Prints a counter notice: counter OFFICE CODE TABLE ENGLISH, with the files of the office's text
 // table and of the English one. It prints the notice line, or the number of the question that
 // refuses it as a line of two digits.
+#![tactic(auto)]
+
 use anyhow::anyhow;
 use notice::{LONGEST_LINE, show_line};
 use std::alloc::Global;

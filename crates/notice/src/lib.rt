@@ -1,5 +1,7 @@
 // Counter notices: a text by its code, in the office's language or else in English, and the line that
 // shows it.
+#![tactic(auto)]
+
 mod fault;
 mod line;
 mod lookup;

@@ -1,4 +1,6 @@
 // Communication plans: for each number of offices, who speaks to whom in each round.
+#![tactic(auto)]
+
 mod cube;
 mod mesh;
 mod number;

@@ -1,4 +1,6 @@
 // Posts: where an office leaves words for the others, round by round, and where they take them.
+#![tactic(auto)]
+
 mod board;
 mod fault;
 mod fill;

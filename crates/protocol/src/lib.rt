@@ -1,5 +1,7 @@
 // The protocol of a release: the record of an office and its part of each call, the model of a release,
 // and what a release promises over every list of calls.
+#![tactic(auto)]
+
 mod call;
 mod fault;
 mod office;

@@ -1,5 +1,7 @@
 // Refusals: a call asks numbered questions in a fixed order, and the first that gets a no refuses it.
 // The refused call answers a fault, which stands for that question, and changes nothing.
+#![tactic(auto)]
+
 ghost use Rattle.std.specs.Prelude.{◌≡◌, ℕ, ◌<◌, [], ◌∷◌, ◌++◌};
 ghost use Rattle.refusals.specs.Digits.{two_digits};
 

@@ -1,4 +1,6 @@
 // Words: what one office tells another, told equal or different, joined and summed.
+#![tactic(auto)]
+
 mod knowledge;
 mod mask;
 mod offices;

@@ -44,18 +44,18 @@ pub trait Joining: Word {
 
 // The sum of the words, each joined to the empty word: the same in any order.
 pub fn sum<W: Joining + Copy>(words: &[W]) -> W
-    ensures value { result ≡ sum_of nil join words.now }
-    ensures bound { LeastBound join words.now result }
-    ensures any_order { AnyOrder nil join words.now result }
+    ensures value { result ≡ sum_of W.Joining.nil W.Joining.join words.now }
+    ensures bound { LeastBound W.Joining.join words.now result }
+    ensures any_order { AnyOrder W.Joining.nil W.Joining.join words.now result }
 {
     folded(words)
 }
 
 // Joins the words to the empty word, one after another.
 fn folded<W: Joining + Copy>(words: &[W]) -> W
-    ensures value { result ≡ sum_of nil join words.now }
-    ensures bound { LeastBound join words.now result }
-    ensures any_order { AnyOrder nil join words.now result }
+    ensures value { result ≡ sum_of W.Joining.nil W.Joining.join words.now }
+    ensures bound { LeastBound W.Joining.join words.now result }
+    ensures any_order { AnyOrder W.Joining.nil W.Joining.join words.now result }
 {
     let mut total = W::empty();
     for word in words {
