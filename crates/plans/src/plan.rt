@@ -27,7 +27,7 @@ pub trait Plan {
 
 // Whether the plan serves n offices.
 pub fn serves<P: Plan>(plan: &P, n: u8) -> bool
-    ensures { result ≡ served (rounds plan.now) n }
+    ensures { result ≡ served (P.Plan.rounds plan.now) n }
 {
     0 < plan.rounds(n)
 }

@@ -10,7 +10,7 @@ pub loop-receiver-init : goal.loop-receiver-init
 loop-receiver-init g c = every-none _
 
 pub loop-receiver-preserved : goal.loop-receiver-preserved
-loop-receiver-preserved g c = every_more _ c.loop-receiver.receiver _ _ (c.agrees-with-all.ensures ∙ ap (agrees g.W.Word.alike c.args.word.now) c.place.ensures) c.loop-receiver.invariant
+loop-receiver-preserved g c = every_more _ c.loop-receiver.receiver _ _ (c.agrees_with-all.ensures ∙ ap (agrees g.W.Word.alike c.args.word.now) c.place.ensures) c.loop-receiver.invariant
 
 pub returns : goal.returns
 returns g c =

@@ -7,4 +7,4 @@ pub loop-before-init : goal.loop-before-init
 loop-before-init g c = some-none _
 
 pub loop-before-preserved : goal.loop-before-preserved
-loop-before-preserved g c = some_more _ c.loop-before.before _ _ (ap not (c.is-empty.ensures ∙ ap vacant c.place.ensures)) c.loop-before.invariant
+loop-before-preserved g c = some_more _ c.loop-before.before _ _ (ap not (c.is_empty.ensures ∙ ap vacant c.place.ensures)) c.loop-before.invariant

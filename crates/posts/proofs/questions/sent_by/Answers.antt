@@ -5,4 +5,4 @@ pub loop-receiver-init : goal.loop-receiver-init
 loop-receiver-init g c = some-none _
 
 pub loop-receiver-preserved : goal.loop-receiver-preserved
-loop-receiver-preserved g c = some_more _ c.loop-receiver.receiver _ _ c.sent-between-any.ensures c.loop-receiver.invariant
+loop-receiver-preserved g c = some_more _ c.loop-receiver.receiver _ _ c.sent_between-any.ensures c.loop-receiver.invariant

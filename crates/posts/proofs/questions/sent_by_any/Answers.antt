@@ -10,7 +10,7 @@ pub loop-sender-init : goal.loop-sender-init
 loop-sender-init g c = some-none _
 
 pub loop-sender-preserved : goal.loop-sender-preserved
-loop-sender-preserved g c = some_more _ c.loop-sender.sender _ _ c.sent-by-any.ensures c.loop-sender.invariant
+loop-sender-preserved g c = some_more _ c.loop-sender.sender _ _ c.sent_by-any.ensures c.loop-sender.invariant
 
 pub returns : goal.returns
 returns g c =

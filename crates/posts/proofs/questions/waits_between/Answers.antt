@@ -10,7 +10,7 @@ pub loop-before-init : goal.loop-before-init
 loop-before-init g c = some-none _
 
 pub loop-before-preserved : goal.loop-before-preserved
-loop-before-preserved g c = some_more _ c.loop-before.before _ _ (c.is-waiting-any.ensures ∙ ap waits c.place.ensures) c.loop-before.invariant
+loop-before-preserved g c = some_more _ c.loop-before.before _ _ (c.is_waiting-any.ensures ∙ ap waits c.place.ensures) c.loop-before.invariant
 
 pub returns : goal.returns
 returns g c =
