@@ -1,44 +1,22 @@
 -- Agreement, in one state. Assumes nothing.
-use Rattle.std.proofs.Common.{◌≡◌, ℕ, zero, suc, ◌+◌, ◌-◌, ◌<◌, ◌≤◌, min, Bool, true, false, cond, not, ◌&&◌, ◌||◌, eqb, ltb, leb, ◌≢◌, ◌⊎◌, List, [], ◌∷◌, ◌++◌, length, get_or, set, replicate, Some, None, Option, sym, refl, ap, ◌∙◌, subst, inl, inr, arith, length-set, get_or-set_other, get_or-set_same}
-use mathlib.Core.Path.{fun_ext}
+use Rattle.std.proofs.Common.{◌≡◌, ℕ, ◌<◌, ◌≤◌, Bool, true, false, cond, not, ◌≢◌, ◌⊎◌, None, Option, sym, ◌∙◌, inl, inr, arith}
 use Rattle.std.proofs.lemmas.Bool.Decides.{nat_tests}
-use Rattle.std.proofs.lemmas.Bool.{cases_eq, cases_lt, cases_Bool, cond-true, cond-false, cond_both, eqb-true, eqb-false, eq-eqb, ne_eqb, lt-ltb, le-leb, ltb-true, leb-true, and_from, and_parts, or_right, not-true}
-use Rattle.words.specs.declared.knowledge.Class.{Class}
+use Rattle.std.proofs.lemmas.Bool.{cases_Bool, cond-true}
 use Rattle.words.specs.declared.knowledge.Decision.{Decision}
 use Rattle.words.specs.declared.knowledge.Knowledge.{Knowledge}
-use Rattle.words.specs.declared.offices.Offices.{Offices}
 use Rattle.words.specs.declared.term.TermWord.{TermWord}
-use Rattle.words.specs.Below.{every, some}
-use Rattle.words.specs.Classes.{class_of, decision_of}
-use Rattle.words.specs.Knowledge.{knows_nothing, same_knowledge}
-use Rattle.words.specs.Offices.{member, none, added, empty, full}
-use Rattle.words.specs.Terms.{same_term}
-use Rattle.words.proofs.Members.{member-none, member-added}
-use Rattle.plans.specs.Covering.{Talk, Knows, Covers}
-use Rattle.plans.specs.Pairs.{Proper}
-use Rattle.posts.specs.declared.place.Place.{Place}
-use Rattle.posts.specs.declared.place.Place.TheVariants.{Empty, Waiting, Taken}
-use Rattle.posts.specs.Places.{Places, no_words, vacant, waits, agrees, legal, within}
-use Rattle.protocol.specs.declared.call.Call.{Call}
-use Rattle.protocol.specs.declared.call.Call.TheVariants.{Vote, Speak, Hear, Close, DropOut, Notice, Join}
-use Rattle.protocol.specs.declared.office.Office.{Office}
-use Rattle.protocol.specs.Asked.{waiting_from, as_before, may_go_on, round_open, may_pair, must_speak, must_hear, spoken_to, heard_from, verdict}
-use Rattle.protocol.specs.Hearing.{Heard, heard, spoke}
-use Rattle.protocol.specs.History.{count}
+use Rattle.words.specs.Classes.{decision_of}
+use Rattle.words.specs.Offices.{full}
 use Rattle.protocol.specs.Letters.{N, C, A, to_abort, to_commit}
-use Rattle.protocol.specs.Model.{Mail, Model, nobody, office, plan_round, voting_rounds}
-use Rattle.protocol.specs.Openings.{Opening}
-use Rattle.protocol.specs.Records.{fresh, undecided, latest, next_round, voted_yes, voted_no, dropped_out, told_of, entered, closed_voting, closed_termination}
-use Rattle.protocol.specs.Rules.{learns, class, first_word, rule_1, rule_2, rule_3, ruling, next_word}
-use Rattle.protocol.specs.Steps.{taken, filled, heard_in, closed, with_office, with_voting, with_termination, after, step, run}
-use Rattle.protocol.proofs.Updates.{at1, at2, at3, at1_is, at2_is, at3_is, filled_is}
+use Rattle.protocol.specs.Model.{Model, office}
+use Rattle.protocol.specs.Rules.{class, first_word}
 use Rattle.protocol.proofs.Sums.{full_at, some-member}
-use Rattle.protocol.proofs.Net.{Net, hears, sum_of, fits1, fits2, fits3, fate_at, Sound}
+use Rattle.protocol.proofs.Net.{Net, fits1, fits2, fits3, fate_at, Sound}
 use Rattle.protocol.proofs.NetAgree.{rises, agreed}
 use Rattle.protocol.proofs.NetWhole.{A-from, A_word, C-first}
 use Rattle.protocol.proofs.NetWords.{word_C, word_N, fits1_A}
-use Rattle.protocol.proofs.Voting.{Votes, Fair, has_yes, has_no, has_ready}
-use Rattle.protocol.proofs.View.{t_of, r_of, net, votes, Rec, Good}
+use Rattle.protocol.proofs.Voting.{has_yes, has_no}
+use Rattle.protocol.proofs.View.{t_of, net, votes, Good}
 
 pub three_abort : (a b c : Bool) → cond a to_abort (cond b to_commit (cond c to_abort None)) ≡ to_abort → (a ≡ true) ⊎ (c ≡ true)
 three_abort a b c e = grind arith

@@ -1,26 +1,19 @@
 -- The round limit. Assumes nothing.
-use Rattle.std.proofs.Common.{◌≡◌, ℕ, zero, suc, ◌+◌, ◌-◌, ◌<◌, ◌≤◌, Bool, true, false, cond, not, ◌&&◌, ◌||◌, eqb, ltb, leb, ◌≢◌, ◌⊎◌, List, [], ◌∷◌, Some, None, Option, sym, refl, ap, ◌∙◌, inl, inr, arith}
-use mathlib.Core.Path.{fun_ext}
+use Rattle.std.proofs.Common.{◌≡◌, ℕ, zero, suc, ◌-◌, ◌<◌, ◌≤◌, Bool, true, false, not, ◌&&◌, eqb, ltb, ◌≢◌, Some, Option, sym, ◌∙◌, inl, inr, arith}
 use mathlib.Core.Bool.{beq}
 use Rattle.std.proofs.lemmas.Bool.Decides.{nat_tests}
-use Rattle.std.proofs.lemmas.Bool.{cases_eq, cases_lt, cases_Bool, cond_both}
-use Rattle.words.specs.declared.knowledge.Decision.{Decision}
+use Rattle.std.proofs.lemmas.Bool.{cases_lt}
 use Rattle.words.specs.declared.term.TermWord.{TermWord}
-use Rattle.words.specs.Below.{every, some}
-use Rattle.words.specs.Terms.{higher, same_term}
-use Rattle.posts.specs.declared.place.Place.{Place}
-use Rattle.posts.specs.declared.place.Place.TheVariants.{Empty, Waiting, Taken}
-use Rattle.posts.specs.Places.{Places, vacant, waits}
-use Rattle.protocol.specs.Hearing.{Heard, heard, spoke}
+use Rattle.words.specs.Terms.{higher}
+use Rattle.posts.specs.Places.{waits}
+use Rattle.protocol.specs.Hearing.{spoke}
 use Rattle.protocol.specs.History.{count}
 use Rattle.protocol.specs.Letters.{N, C, A}
-use Rattle.protocol.specs.Rules.{only, all_are, says_A, rule_1, rule_2, rule_3, same_offices, ruling, next_word}
-use Rattle.protocol.specs.Steps.{taken}
-use Rattle.protocol.proofs.Updates.{at1, at2, at3, at1_is, at2_is, at3_is}
-use Rattle.protocol.proofs.Sums.{every_at, all_below, every_not, some_at, some-from, count_le, count_lt, count_pos, word_or, join_N, join_C, join_C_one, join_A_one, sum_term, sum_N, sum_C, sum_A, sum_C_at, sum_A_at, total_term, total_is}
-use Rattle.protocol.proofs.Rules.{three, A_sum, sum_A_fits, all_own, all_heard, not_all, Three, three_asks, three_not, next_is}
-use Rattle.protocol.proofs.Net.{Net, hears, sum_of, fits1, fits2, fits3, next, Deed, speak, hear, notice, close, drop, enter, done_with, waits_for, May, does, fate_at, Own, Cause, Done, Sound}
-use Rattle.protocol.proofs.NetWords.{next_N, next_C, next_A, says_A_next, own_N, hears_N, word_C, Fits3, unpack3, word_N, fits1_A, A_fits1, C_among, A_among, none-C, next_not_C, heard-A}
+use Rattle.protocol.specs.Rules.{only}
+use Rattle.protocol.proofs.Sums.{every_at, count_le, count_lt, count_pos, word_or, sum_term, total_is}
+use Rattle.protocol.proofs.Rules.{three, not_all, three_not}
+use Rattle.protocol.proofs.Net.{Net, hears, sum_of, fits1, fits2, fits3, close, done_with, May, Own, Cause, Done, Sound}
+use Rattle.protocol.proofs.NetWords.{next_N, next_C, own_N, hears_N, A_fits1, C_among, heard-A}
 use Rattle.protocol.proofs.NetAgree.{rises}
 
 pub own_said : (s : Net) (a b k : ℕ) (w : TermWord) → Own s a b k → hears s b k a ≡ Some w → (a ≢ b) × (k ≤ s.t a) × (s.word a k ≡ w)

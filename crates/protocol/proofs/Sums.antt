@@ -1,16 +1,15 @@
 -- Laws of tests and counts below a number, and of the sums of words. Assumes nothing.
-use Rattle.std.proofs.Common.{◌≡◌, ℕ, zero, suc, ◌+◌, ◌<◌, ◌≤◌, Bool, true, false, cond, ◌&&◌, ◌||◌, eqb, ltb, ◌≢◌, ◌⊎◌, List, [], ◌∷◌, ◌++◌, Some, None, Option, sym, refl, ap, ◌∙◌, inl, inr, arith}
+use Rattle.std.proofs.Common.{◌≡◌, ℕ, zero, suc, ◌<◌, ◌≤◌, Bool, true, false, ◌&&◌, ◌||◌, eqb, ltb, ◌≢◌, ◌⊎◌, Some, None, Option, sym, refl, ap, ◌∙◌, inl, inr, arith}
 use lib.Bits.{or_comm, or_self}
 use Rattle.std.proofs.lemmas.Bool.{cases_eq, cases_Bool}
-use Rattle.std.proofs.lemmas.Bool.Decides.{nat_tests}
 use Rattle.words.specs.declared.knowledge.Knowledge.{Knowledge}
 use Rattle.words.specs.declared.offices.Offices.{Offices}
 use Rattle.words.specs.declared.term.TermWord.{TermWord}
 use Rattle.words.specs.Below.{every, some}
 use Rattle.words.specs.Knowledge.{knows_nothing, pooled}
-use Rattle.words.specs.Offices.{member, none, union, added, full}
+use Rattle.words.specs.Offices.{member, none, union, full}
 use Rattle.words.specs.Sum.{sum_of}
-use Rattle.words.specs.Terms.{higher, same_term}
+use Rattle.words.specs.Terms.{higher}
 use Rattle.words.proofs.Below.{every_decides, some_decides}
 use Rattle.words.specs.MasksLemmas.{or_assoc, bit-bit_or, bit-none, some-bit}
 use Rattle.words.proofs.Members.{member-none, member-added}
@@ -18,7 +17,7 @@ use Rattle.words.proofs.Sums.{sum_append}
 use Rattle.protocol.specs.Hearing.{Heard, listed, words, total}
 use Rattle.protocol.specs.History.{count}
 use Rattle.protocol.specs.Letters.{N, C, A}
-use Rattle.protocol.specs.Rules.{only, all_are, says_A, rule_1, readied, learns}
+use Rattle.protocol.specs.Rules.{readied, learns}
 
 pub every_at : (n : ℕ) (p : ℕ → Bool) → every n p ≡ true → (l : ℕ) → l < n → p l ≡ true
 every_at n p = (every_decides p n).0

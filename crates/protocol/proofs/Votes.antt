@@ -1,24 +1,19 @@
 -- Each move of the voting keeps what Fair says. Assumes nothing.
-use Rattle.std.proofs.Common.{◌≡◌, ℕ, zero, suc, ◌+◌, ◌-◌, ◌<◌, ◌≤◌, Bool, true, false, cond, not, ◌&&◌, ◌||◌, eqb, ltb, leb, ◌≢◌, ◌⊎◌, Some, None, Option, sym, refl, ap, ◌∙◌, subst, inl, inr, arith}
+use Rattle.std.proofs.Common.{◌≡◌, ℕ, suc, ◌+◌, ◌-◌, ◌<◌, ◌≤◌, Bool, true, false, ◌&&◌, ◌||◌, eqb, ltb, ◌⊎◌, Option, sym, ap, ◌∙◌, subst, inl, inr, arith}
 use Rattle.std.proofs.lemmas.Bool.Decides.{nat_tests}
-use Rattle.std.proofs.lemmas.Bool.{cases_eq, cases_lt, cases_Bool, or_cases, or_left, or_right, cond-true, cond-false}
+use Rattle.std.proofs.lemmas.Bool.{cases_eq, cases_Bool, or_cases, or_left, or_right}
 use Rattle.words.specs.declared.knowledge.Knowledge.{Knowledge}
 use Rattle.words.specs.declared.offices.Offices.{Offices}
-use Rattle.words.specs.Below.{every, some}
 use Rattle.words.specs.Knowledge.{knows_nothing}
-use Rattle.words.specs.Offices.{member, none, added, empty, full}
+use Rattle.words.specs.Offices.{member, none, full}
 use Rattle.words.proofs.Members.{member-none, member-added}
-use Rattle.plans.specs.Covering.{Talk, Knows, Covers}
-use Rattle.plans.specs.Pairs.{Proper}
 use Rattle.posts.specs.declared.place.Place.{Place}
-use Rattle.posts.specs.declared.place.Place.TheVariants.{Empty, Waiting, Taken}
-use Rattle.posts.specs.Places.{Places, vacant, waits}
-use Rattle.protocol.specs.Hearing.{Heard, heard, spoke}
+use Rattle.posts.specs.declared.place.Place.TheVariants.{Waiting}
+use Rattle.posts.specs.Places.{vacant}
+use Rattle.protocol.specs.Hearing.{heard}
 use Rattle.protocol.specs.Model.{plan_round}
-use Rattle.protocol.specs.Rules.{learns}
-use Rattle.protocol.specs.Steps.{taken}
-use Rattle.protocol.proofs.Sums.{every_at, all_below, every_not, some_at, some-from, full_at, full_from, some-member, no_member, told_by, word_or, closed-yes, closed-no, closed-ready}
-use Rattle.protocol.proofs.Updates.{at1, at3, at1_is, at3_is}
+use Rattle.protocol.proofs.Sums.{every_at, some_at, some-from, full_at, full_from, some-member, no_member, told_by, word_or, closed-yes, closed-no, closed-ready}
+use Rattle.protocol.proofs.Updates.{at1_is, at3_is}
 use Rattle.protocol.proofs.Voting.{Votes, Move, yes, no, close, leave, say, hear, last, named, is_taken, spoken, listened, Can, closed_known, moved, content, has_yes, has_no, has_ready, Knew, Reached, Lies, Fair, Plan}
 
 ruleset kept = (arith, nat_tests, at1_is, at3_is)

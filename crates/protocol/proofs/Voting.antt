@@ -1,24 +1,19 @@
 -- The voting alone: what the offices know, the round of each that is in voting (0 where it has left), and the places. Assumes nothing.
-use Rattle.std.proofs.Common.{◌≡◌, ℕ, zero, suc, ◌+◌, ◌-◌, ◌<◌, ◌≤◌, Bool, true, false, cond, not, ◌&&◌, ◌||◌, eqb, ltb, leb, ◌≢◌, ◌⊎◌, Some, None, Option, sym, refl, ap, ◌∙◌, subst, inl, inr, arith}
-use Rattle.std.proofs.lemmas.Bool.Decides.{nat_tests}
-use Rattle.std.proofs.lemmas.Bool.{cases_eq, cases_lt, cases_Bool, or_cases, or_left, or_right, cond-true, cond-false}
+use Rattle.std.proofs.Common.{◌≡◌, ℕ, suc, ◌+◌, ◌-◌, ◌<◌, ◌≤◌, Bool, true, false, cond, not, ◌||◌, ◌⊎◌}
 use Rattle.words.specs.declared.knowledge.Knowledge.{Knowledge}
-use Rattle.words.specs.declared.offices.Offices.{Offices}
-use Rattle.words.specs.Below.{every, some}
+use Rattle.words.specs.Below.{every}
 use Rattle.words.specs.Knowledge.{knows_nothing}
-use Rattle.words.specs.Offices.{member, none, added, empty, full}
-use Rattle.words.proofs.Members.{member-none, member-added}
+use Rattle.words.specs.Offices.{member, added, empty, full}
 use Rattle.plans.specs.Covering.{Talk, Knows, Covers}
 use Rattle.plans.specs.Pairs.{Proper}
 use Rattle.posts.specs.declared.place.Place.{Place}
 use Rattle.posts.specs.declared.place.Place.TheVariants.{Empty, Waiting, Taken}
-use Rattle.posts.specs.Places.{Places, vacant, waits}
-use Rattle.protocol.specs.Hearing.{Heard, heard, spoke}
+use Rattle.posts.specs.Places.{Places, vacant}
+use Rattle.protocol.specs.Hearing.{heard, spoke}
 use Rattle.protocol.specs.Model.{plan_round}
 use Rattle.protocol.specs.Rules.{learns}
 use Rattle.protocol.specs.Steps.{taken}
-use Rattle.protocol.proofs.Sums.{every_at, all_below, every_not, some_at, some-from, full_at, full_from, some-member, no_member, told_by, word_or, closed-yes, closed-no, closed-ready}
-use Rattle.protocol.proofs.Updates.{at1, at3, at1_is, at3_is}
+use Rattle.protocol.proofs.Updates.{at1, at3}
 
 pub record Votes : Type 0 where
   pub n : ℕ

@@ -1,5 +1,5 @@
 -- What the accepted calls of a list say of an office. Assumes nothing.
-use Rattle.std.specs.Prelude.{◌≡◌, ℕ, zero, suc, ◌+◌, ◌-◌, Bool, true, false, cond, not, ◌&&◌, ◌||◌, ◌≢◌, List, [], ◌∷◌, None, Option, ◌==◌}
+use Rattle.std.specs.Prelude.{◌≡◌, ℕ, zero, suc, ◌+◌, ◌-◌, Bool, true, false, cond, ◌&&◌, ◌||◌, ◌≢◌, List, [], ◌∷◌, None, Option, ◌==◌}
 use Rattle.words.specs.declared.knowledge.Decision.{Decision}
 use Rattle.words.specs.Classes.{decision_of}
 use Rattle.protocol.specs.declared.call.Call.{Call}

@@ -1,5 +1,5 @@
 -- A release as a pure state. Assumes nothing.
-use Rattle.std.specs.Prelude.{ℕ, ◌+◌, ◌-◌, Bool, false, cond, List, Some, None, Option, nat_le, slice_index_or}
+use Rattle.std.specs.Prelude.{ℕ, ◌+◌, ◌-◌, false, cond, List, Some, None, Option, nat_le, slice_index_or}
 use Rattle.words.specs.declared.knowledge.Decision.{Decision}
 use Rattle.words.specs.declared.knowledge.Decision.TheVariants.{Commit, Abort}
 use Rattle.words.specs.declared.knowledge.Knowledge.{Knowledge}

@@ -7,7 +7,7 @@ use Rattle.protocol.specs.History.{is_drop_out, dropped, voted, entered, drop_ou
 use Rattle.protocol.specs.Letters.{to_abort, to_commit}
 use Rattle.protocol.specs.Model.{Model, office}
 use Rattle.protocol.specs.Openings.{Opening}
-use Rattle.protocol.specs.Steps.{step, run}
+use Rattle.protocol.specs.Steps.{run}
 
 -- m is the release as it was opened, h the list of calls since, with any numbers, and s the release as it is now
 pub record Promise (m : Model) (h : List Call) (s : Model) : Type 0 where
