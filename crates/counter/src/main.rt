@@ -7,6 +7,7 @@ use anyhow::anyhow;
 use notice::{LONGEST_LINE, show_line};
 use std::alloc::Global;
 use std::io::{Read, Write};
+use std::process::ExitCode;
 use std::{env, fs, io};
 
 // One byte more than the largest table has, so that a larger file is still seen to be too large.
@@ -60,10 +61,13 @@ fn run(rt: &HostRuntime) -> anyhow::Result<()> {
     Ok(())
 }
 
-fn main(rt: HostRuntime) -> anyhow::Result<()> {
-    let result = run(&rt);
-    if let Err(e) = &result {
-        eprintln!(rt; "counter: {e}")?;
+fn main(rt: HostRuntime) -> ExitCode {
+    match run(&rt) {
+        Ok(()) => ExitCode::SUCCESS,
+        Err(e) => {
+            // where the message can't be written either, the status alone says that the run failed
+            let _ = eprintln!(rt; "counter: {e}");
+            ExitCode::FAILURE
+        }
     }
-    result
 }

@@ -2,7 +2,6 @@
 use posts::{Board, BoardEntry, Grid, Place, Post, PostView, any_waiting, ever_posted};
 use refusals::Refusal;
 use std::process::Abort;
-use std::test::Fail;
 use words::{Joining, Knowledge, Offices, TermWord, Word};
 
 // The number that refuses to post, or 0.
@@ -81,22 +80,15 @@ fn last_round<W: Word + Copy, P: Post<W>>(rt: &impl Abort, post: &mut P, reach: 
     assert!(rt; refuses(post, 7, 9, reach.saturating_add(1), a, 32));
 }
 
-fn tried<W: Word + Copy, P: Post<W>>(
-    rt: &impl Abort,
-    post: &mut P,
-    reach: u8,
-    a: W,
-    b: W,
-) -> Result<(), Fail> {
+fn tried<W: Word + Copy, P: Post<W>>(rt: &impl Abort, post: &mut P, reach: u8, a: W, b: W) {
     legal_only(rt, post, reach, a);
     if reach == 0 {
         assert!(rt; refuses(post, 0, 1, 1, a, 32));
-        return Ok(());
+        return;
     }
     exchanges(rt, post, a, b);
     empty_outside(rt, post, reach);
     last_round(rt, post, reach, a);
-    Ok(())
 }
 
 // Numbers of entries, with the reach of a grid and of a board.
@@ -123,31 +115,29 @@ fn one_yes() -> Knowledge {
 }
 
 #[test]
-fn posts_for_termination_words(rt: HostRuntime) -> Result<(), Fail> {
+fn posts_for_termination_words(rt: HostRuntime) {
     for (size, grid_reach, board_reach) in SIZES {
         // making a post empties its memory
         let mut places = [Place::Waiting(N); 9000];
         let mut grid = Grid::new(&mut places[0..size.min(9000)]);
-        tried(&rt, &mut grid, grid_reach, A, N)?;
+        tried(&rt, &mut grid, grid_reach, A, N);
         let mut entries = [BoardEntry::blank(); 9000];
         let mut board = Board::new(&mut entries[0..size.min(9000)]);
-        tried(&rt, &mut board, board_reach, A, N)?;
+        tried(&rt, &mut board, board_reach, A, N);
     }
-    Ok(())
 }
 
 #[test]
-fn posts_for_knowledge(rt: HostRuntime) -> Result<(), Fail> {
+fn posts_for_knowledge(rt: HostRuntime) {
     let empty = Knowledge::empty();
     for (size, grid_reach, board_reach) in SIZES {
         let mut places = [Place::Waiting(empty); 9000];
         let mut grid = Grid::new(&mut places[0..size.min(9000)]);
-        tried(&rt, &mut grid, grid_reach, one_yes(), empty)?;
+        tried(&rt, &mut grid, grid_reach, one_yes(), empty);
         let mut entries = [BoardEntry::blank(); 9000];
         let mut board = Board::new(&mut entries[0..size.min(9000)]);
-        tried(&rt, &mut board, board_reach, one_yes(), empty)?;
+        tried(&rt, &mut board, board_reach, one_yes(), empty);
     }
-    Ok(())
 }
 
 #[test]
