@@ -51,12 +51,15 @@ cube_covered : every 17 (covered cube_rounds cube_names) ≡ true
 unfolding covered full masks told every bit ones
 cube_covered = refl
 
+-- the mesh keeps the laws of a plan
 pub mesh_laws : PlanLaws mesh_rounds mesh_names
 mesh_laws = kept mesh_rounds mesh_names (λ n. grind (arith, nat_tests)) (λ n h. grind (arith, nat_tests)) (λ n r s l e. e) mesh_covered
 
+-- the star keeps them
 pub star_laws : PlanLaws star_rounds star_names
 star_laws = kept star_rounds star_names (λ n. grind (arith, nat_tests)) (λ n h. grind (arith, nat_tests)) (λ n r s l e. grind (arith, nat_tests)) star_covered
 
+-- the cube keeps them
 pub cube_laws : PlanLaws cube_rounds cube_names
 cube_laws = kept cube_rounds cube_names (λ n. grind (arith, nat_tests)) (λ n h. grind (arith, nat_tests)) (λ n r s l e. grind (arith, nat_tests)) cube_covered
 
@@ -68,9 +71,11 @@ none_laws = record {
   covers = λ n h. absurd (omega arith);
 }
 
+-- of two plans that keep the laws, either may be chosen by a test
 either : (b : Bool) {q r : ℕ → ℕ} {t u : ℕ → Talk} → PlanLaws q t → PlanLaws r u → PlanLaws (λ n. cond b (q n) (r n)) (λ n k s l. cond b (t n k s l) (u n k s l))
 either true x y = x
 either false x y = y
 
+-- the plan of each number keeps them
 pub numbered_laws : (k : ℕ) → PlanLaws (numbered_rounds k) (numbered_names k)
 numbered_laws k = either (k == 0) mesh_laws (either (k == 1) star_laws (either (k == 2) cube_laws none_laws))

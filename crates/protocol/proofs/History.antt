@@ -381,6 +381,6 @@ step_zero m f c a z none = go (stepped m f c a)
 pub round_none : (m : Model) → Fine m → (h : List Call) (a : ℕ) → (office m a).deciding ≡ 0 →
     ((past later : List Call) → h ≡ past ++ (Close a ∷ later) → verdict (run m past) (Close a) ≡ 0 → (office (run m past) a).terminating ≡ true → closing_gives (run m past) a ≢ None → ⊥) → (office (run m h) a).deciding ≡ 0
 unfolding run
-round_none m f [] a z none = z
-round_none m f (c ∷ h) a z none =
-    round_none (step m c) (fine_step m f c) h a (step_zero m f c a z (λ q. none [] h (ap (λ x. x ∷ h) q))) (λ past later e. none (c ∷ past) later (ap (λ l. c ∷ l) e))
+round_none m f [] a z never = z
+round_none m f (c ∷ h) a z never =
+    round_none (step m c) (fine_step m f c) h a (step_zero m f c a z (λ q. never [] h (ap (λ x. x ∷ h) q))) (λ past later e. never (c ∷ past) later (ap (λ l. c ∷ l) e))

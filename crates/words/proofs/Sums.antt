@@ -1,6 +1,6 @@
 -- What the laws of a join give of a sum. Assumes nothing.
 use Rattle.std.proofs.Common.{◌≡◌, ℕ, ◌+◌, ◌<◌, List, [], ◌∷◌, ◌++◌, length, get_or, take, sym, ap, ◌∙◌, subst}
-use Rattle.std.specs.List.{AllByRecursion as All}
+use Rattle.std.specs.List.{AllByRecursion}
 use Rattle.std.specs.List.Sorted.{IsPermutation}
 use Rattle.std.proofs.lemmas.List.{take_more}
 use Rattle.std.proofs.ByRecursion.{All-weaker, all_shuffled}
@@ -20,7 +20,7 @@ module _ {W : Type 0} (nil : W) (join : W → W → W)
       sym (ap (sum_of nil join) pushed ∙ sum_append (take i xs) (x ∷ []) ∙ ap (join _) (comm x nil ∙ unit x))
 
   -- by idempotence each word is absorbed by the sum
-  absorbed : (xs : List W) → All (λ x. join x (sum_of nil join xs) ≡ sum_of nil join xs) xs
+  absorbed : (xs : List W) → AllByRecursion (λ x. join x (sum_of nil join xs) ≡ sum_of nil join xs) xs
   absorbed [] = tt
   absorbed (x ∷ xs) =
       let s = sum_of nil join xs in (
@@ -29,7 +29,7 @@ module _ {W : Type 0} (nil : W) (join : W → W → W)
       )
 
   -- what absorbs each word absorbs the sum
-  least : (xs : List W) (b : W) → All (λ x. join x b ≡ b) xs → join (sum_of nil join xs) b ≡ b
+  least : (xs : List W) (b : W) → AllByRecursion (λ x. join x b ≡ b) xs → join (sum_of nil join xs) b ≡ b
   least [] b h = unit b
   least (x ∷ xs) b h = assoc x _ b ∙ ap (join x) (least xs b h.1) ∙ h.0
 

@@ -9,6 +9,7 @@ use Rattle.std.proofs.lemmas.Bool.{cases_eq}
 use Rattle.std.proofs.lemmas.Bool.Decides.{nat_tests}
 use Rattle.words.specs.Masks.{bit, lone, SomeBit, NoBit}
 
+-- the union of masks is associative
 pub or_assoc : (a b c : ℕ) → bit_or (bit_or a b) c ≡ bit_or a (bit_or b c)
 or_assoc =
     bin_ind (λ (n : ℕ). (b c : ℕ) → bit_or (bit_or n b) c ≡ bit_or n (bit_or b c)) (λ b c. refl)
@@ -34,6 +35,7 @@ pub bit_up : (m j : ℕ) → bit m (suc j) ≡ bit (m / 2) j
 unfolding bit
 bit_up m j = ap (λ n. nat_eq (n % 2) 1) (ap (λ e. m / 2 ^ e) (sym (one-add j)) ∙ sym (shr-shr m 1 j))
 
+-- the mask 0 has no bit
 pub bit-none : (i : ℕ) → bit 0 i ≡ false
 unfolding bit
 bit-none i = ap (λ n. nat_eq (n % 2) 1) (zero-div (2 ^ i))
@@ -90,6 +92,7 @@ lone_shift j within =
     let small = pow_below j 16 within in
     grind (arith, nat_tests)
 
+-- a place past the sixteen bits gives no mask
 pub lone_past : (j : ℕ) → 16 ≤ j → 0 ≡ lone j
 unfolding lone
 lone_past j past = grind (arith, nat_tests)

@@ -1,6 +1,6 @@
 -- The sum of a list of words of any kind. Assumes nothing.
 use Rattle.std.specs.Prelude.{◌≡◌, List, [], ◌∷◌}
-use Rattle.std.specs.List.{AllByRecursion as All}
+use Rattle.std.specs.List.{AllByRecursion}
 use Rattle.std.specs.List.Sorted.{IsPermutation}
 
 -- the words joined to one another and to the empty word
@@ -14,5 +14,5 @@ AnyOrder {W} nil join xs r = (ys : List W) → IsPermutation xs ys → sum_of ni
 
 -- r is the least upper bound of the words: joining one of them changes nothing in it, and it changes nothing in what none of them changes
 pub record LeastBound {W : Type 0} (join : W → W → W) (words : List W) (r : W) : Type 0 where
-  pub above : All (λ x. join x r ≡ r) words
-  pub least : (b : W) → All (λ x. join x b ≡ b) words → join r b ≡ b
+  pub above : AllByRecursion (λ x. join x r ≡ r) words
+  pub least : (b : W) → AllByRecursion (λ x. join x b ≡ b) words → join r b ≡ b
