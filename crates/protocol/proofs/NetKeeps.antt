@@ -163,7 +163,7 @@ cause_stays s (enter i w) d ok dd dt = (dd, grind kept)
 waits-from : (s : Net) (j i k : ℕ) → Own s j i k → waits (s.place j i k) ≡ true → 1 ≤ s.t j
 waits-from s j i k o e = grind arith
 
--- an office enters since it was told of another's drop_out or another's word waits: either way some office dropped out before it entered
+-- an office enters since it was told of another's drop-out or another's word waits: either way some office dropped out before it entered
 cause_of : (s : Net) → Sound s → (i j : ℕ) → j < s.n → (s.told i j ≡ true) ⊎ (waits_for s j i ≡ true) → Cause s
 unfolding waits_for
 cause_of s h i j lt (inl to) = elim (cases_eq (s.t j) 0) [ inl z ↦ (j, lt, h.gone i j to, z) | inr ne ↦ h.cause j (omega arith) ]

@@ -55,7 +55,7 @@ round_open m o = cond o.terminating (undecided o.decision) (may_go_on m o)
 abbrev pub may_pair : Model → Office → ℕ → ℕ → Bool
 may_pair m o s l = o.terminating || m.names (plan_round m.h o.round) s l
 
--- whether office i must deal with j in the termination: j is another office, of whose drop_out i was not told
+-- whether office i must deal with j in the termination: j is another office, of whose drop-out i was not told
 abbrev pub counts_on : Model → ℕ → ℕ → Bool
 counts_on m i j = not (i == j) && not (member (office m i).told j)
 

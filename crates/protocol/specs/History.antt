@@ -11,7 +11,7 @@ use Rattle.protocol.specs.Records.{latest}
 use Rattle.protocol.specs.Rules.{learns, class, ruling}
 use Rattle.protocol.specs.Steps.{heard_in, step, run}
 
--- the call is a drop_out of office i
+-- the call is a drop-out of office i
 abbrev pub drops_out : ℕ → Call → Bool
 drops_out i (Vote a x) = false
 drops_out i (Speak a b) = false
@@ -51,7 +51,7 @@ enters i (DropOut a) = false
 enters i (Notice a b) = a == i
 enters i (Join a) = a == i
 
--- the call is a drop_out
+-- the call is a drop-out
 abbrev pub is_drop_out : Call → Bool
 is_drop_out (Vote a x) = false
 is_drop_out (Speak a b) = false

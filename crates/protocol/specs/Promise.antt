@@ -21,7 +21,7 @@ pub record Promise (m : Model) (h : List Call) (s : Model) : Type 0 where
   pub some_no : (i : ℕ) → i < m.n → holds m h i ≡ to_abort → (j : ℕ) × (j < m.n) × ((voted m h j 0 ≡ true) ⊎ (dropped m h j ≡ true))
   -- round limit: an office that decides in the termination does so in termination round F + 1 or earlier, where F offices had dropped out by then
   pub limit : (i : ℕ) (past later : List Call) → h ≡ past ++ (Close i ∷ later) → DecidesInTermination m past i → suc (closings m past i) ≤ drop_outs m past + 1
-  -- no deadlock: if every call except a drop_out, whatever its values, would be refused, each standing office holds a decision
+  -- no deadlock: if every call except a drop-out, whatever its values, would be refused, each standing office holds a decision
   pub no_deadlock : ((c : Call) → is_drop_out c ≡ false → verdict s c ≢ 0) → (i : ℕ) → i < m.n → dropped m h i ≡ false → holds m h i ≢ None
   -- the records show who stands
   pub standing_shown : (i : ℕ) → i < m.n → (office s i).standing ≡ not (dropped m h i)

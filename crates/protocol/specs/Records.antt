@@ -37,11 +37,11 @@ voted_yes o i = record { standing = o.standing; terminating = o.terminating; vot
 abbrev pub voted_no : Office → ℕ → Office
 voted_no o i = record { standing = o.standing; terminating = o.terminating; voted = true; round = o.round; knowledge = record { yes = o.knowledge.yes; no = added o.knowledge.no i; ready = o.knowledge.ready }; told = o.told; word = o.word; prior = o.prior; decision = to_abort; deciding = o.deciding }
 
--- after a drop_out: it stands no more
+-- after a drop-out: it stands no more
 abbrev pub dropped_out : Office → Office
 dropped_out o = record { standing = false; terminating = o.terminating; voted = o.voted; round = o.round; knowledge = o.knowledge; told = o.told; word = o.word; prior = o.prior; decision = o.decision; deciding = o.deciding }
 
--- once it was told of j's drop_out
+-- once it was told of j's drop-out
 abbrev pub told_of : Office → ℕ → Office
 told_of o j = record { standing = o.standing; terminating = o.terminating; voted = o.voted; round = o.round; knowledge = o.knowledge; told = added o.told j; word = o.word; prior = o.prior; decision = o.decision; deciding = o.deciding }
 

@@ -14,7 +14,7 @@ pub struct Office {
     pub round: u8,
     // what it knows of the vote; frozen once it entered the termination
     pub knowledge: Knowledge,
-    // the offices of whose drop_out it was told
+    // the offices of whose drop-out it was told
     pub told: Offices,
     // its word of this termination round
     pub word: TermWord,
