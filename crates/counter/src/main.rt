@@ -3,23 +3,58 @@
 // refuses it as a line of two digits.
 #![tactic(auto)]
 
-use anyhow::anyhow;
 use notice::{LONGEST_LINE, show_line};
-use std::alloc::Global;
+use std::alloc::AllocError;
 use std::io::{Read, Write};
 use std::process::ExitCode;
-use std::{env, fs, io};
+use std::{env, fmt, fs, io};
 
 // One byte more than the largest table has, so that a larger file is still seen to be too large.
 const TABLE_READ: u64 = 16_385;
 
+// Why the program can't say anything about a notice.
+#[derive(Debug, Drop)]
+enum CounterError {
+    Usage,
+    NoNumber { what: &'static str, text: String },
+    NoTable { name: String, cause: io::Error },
+    Memory(AllocError),
+    Io(io::Error),
+}
+
+impl fmt::Display for CounterError {
+    fn fmt<W: fmt::Write>(&self, f: &mut fmt::Formatter<W>) -> fmt::Result {
+        match self {
+            CounterError::Usage => write!(f, "usage: counter OFFICE CODE TABLE ENGLISH"),
+            CounterError::NoNumber { what, text } => {
+                write!(f, "the {what} must be a number from 0 to 255, not '{text}'")
+            }
+            CounterError::NoTable { name, cause } => {
+                write!(f, "the table '{name}' can't be read: {cause}")
+            }
+            CounterError::Memory(cause) => write!(f, "{cause}"),
+            CounterError::Io(cause) => write!(f, "{cause}"),
+        }
+    }
+}
+
+impl From<AllocError> for CounterError {
+    fn from(cause: AllocError) -> CounterError {
+        CounterError::Memory(cause)
+    }
+}
+
+impl From<io::Error> for CounterError {
+    fn from(cause: io::Error) -> CounterError {
+        CounterError::Io(cause)
+    }
+}
+
 // An argument that is a number from 0 to 255.
-fn number(heap: Global, what: &str, text: &str) -> anyhow::Result<u8> {
+fn number(what: &'static str, text: String) -> Result<u8, CounterError> {
     match text.parse::<u8>() {
         Ok(n) => Ok(n),
-        Err(_) => Err(anyhow!(format!(in heap;
-            "the {what} must be a number from 0 to 255, not '{text}'"
-        )?)),
+        Err(_) => Err(CounterError::NoNumber { what, text }),
     }
 }
 
@@ -33,14 +68,14 @@ fn start_of(rt: &HostRuntime, name: &str) -> io::Result<Vec<u8>> {
 }
 
 // The bytes of a table's file.
-fn table(rt: &HostRuntime, name: &str) -> anyhow::Result<Vec<u8>> {
-    match start_of(rt, name) {
+fn table(rt: &HostRuntime, name: String) -> Result<Vec<u8>, CounterError> {
+    match start_of(rt, name.as_str()) {
         Ok(bytes) => Ok(bytes),
-        Err(e) => Err(anyhow!(format!(in rt.alloc(); "the table '{name}' can't be read: {e}")?)),
+        Err(cause) => Err(CounterError::NoTable { name, cause }),
     }
 }
 
-fn run(rt: &HostRuntime) -> anyhow::Result<()> {
+fn run(rt: &HostRuntime) -> Result<(), CounterError> {
     let mut args = env::args(rt)?.skip(1);
     let (Some(office), Some(code), Some(own), Some(english), None) = (
         args.next(),
@@ -49,12 +84,12 @@ fn run(rt: &HostRuntime) -> anyhow::Result<()> {
         args.next(),
         args.next(),
     ) else {
-        return Err(anyhow!("usage: counter OFFICE CODE TABLE ENGLISH"));
+        return Err(CounterError::Usage);
     };
-    let office = number(rt.alloc(), "office", office.as_str())?;
-    let code = number(rt.alloc(), "code", code.as_str())?;
-    let own = table(rt, own.as_str())?;
-    let english = table(rt, english.as_str())?;
+    let office = number("office", office)?;
+    let code = number("code", code)?;
+    let own = table(rt, own)?;
+    let english = table(rt, english)?;
     let mut out = [0u8; LONGEST_LINE];
     let length = show_line(office, code, &own, &english, &mut out);
     rt.stdout().write_all(&out[0..length])?;
