@@ -1,13 +1,11 @@
 // Sums, classes and sets of offices.
-use words::{Class, Decision, Knowledge, Offices, TermWord, Word, sum};
+use words::{Class, Decision, Knowledge, Offices, TermWord, sum};
 
 // The set of these offices.
 fn set(offices: &[u8]) -> Offices {
-    let mut all = Offices::none();
-    for office in offices {
-        all = all.with(*office);
-    }
-    all
+    offices
+        .iter()
+        .fold(Offices::none(), |all, office| all.with(*office))
 }
 
 fn knowledge(yes: &[u8], no: &[u8], ready: &[u8]) -> Knowledge {
@@ -42,10 +40,9 @@ fn termination_words_sum_to_the_higher(rt: HostRuntime) {
     for (a, b, both) in TERM_SUMS {
         assert!(rt; sum(&[a, b]) == both && sum(&[N, b, a, b]) == both);
         // two words are the same where each is their sum
-        assert!(rt; a.same(&b) == (a == both && b == both));
+        assert!(rt; (a == b) == (a == both && b == both));
     }
-    let none: [TermWord; 0] = [];
-    assert!(rt; sum(&none) == N);
+    assert!(rt; sum::<TermWord>(&[]) == N);
 }
 
 #[test]
@@ -54,8 +51,7 @@ fn knowledge_sums_set_by_set(rt: HostRuntime) {
     let second = knowledge(&[0, 1], &[], &[2]);
     let both = knowledge(&[0, 1], &[3], &[2, 15]);
     assert!(rt; sum(&[first, second]) == both && sum(&[second, first, second]) == both);
-    let none: [Knowledge; 0] = [];
-    assert!(rt; sum(&none) == knowledge(&[], &[], &[]));
+    assert!(rt; sum::<Knowledge>(&[]) == knowledge(&[], &[], &[]));
 }
 
 #[test]
@@ -67,7 +63,7 @@ fn knowledge_differs_in_any_of_its_sets(rt: HostRuntime) {
         knowledge(&[0], &[1], &[]),
     ];
     for other in others {
-        assert!(rt; k.same(&k) && other.same(&other) && !k.same(&other));
+        assert!(rt; k == k && other == other && k != other);
     }
 }
 
@@ -142,6 +138,6 @@ fn sets_hold_offices_below_sixteen(rt: HostRuntime) {
         assert!(rt; one.contains(office) == (office < 16) && one.is_empty() == (office >= 16));
         assert!(rt; set(&ALL).contains(office) == (office < 16));
         assert!(rt; set(&ALL).holds_all(office) == (office <= 16));
-        assert!(rt; one.holds_all(2) == false && one.union(set(&[0, 1])).holds_all(2));
+        assert!(rt; !one.holds_all(2) && one.union(set(&[0, 1])).holds_all(2));
     }
 }

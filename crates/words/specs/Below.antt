@@ -1,12 +1,11 @@
 -- Tests of the numbers below another. Assumes nothing.
-use Rattle.std.specs.Prelude.{ℕ, zero, suc, Bool, true, false, ◌&&◌, ◌||◌}
+use Rattle.std.specs.Prelude.{ℕ, Bool}
+use Rattle.std.specs.List.{list_all, list_any, range_with_len}
 
--- whether p passes each number below n
+-- whether p passes each of the n numbers from 0 on
 unfoldable pub every : ℕ → (ℕ → Bool) → Bool
-every zero p = true
-every (suc n) p = p n && every n p
+every n p = list_all p (range_with_len 0 n)
 
--- whether p passes some number below n
+-- whether p passes some of the n numbers from 0 on
 unfoldable pub some : ℕ → (ℕ → Bool) → Bool
-some zero p = false
-some (suc n) p = p n || some n p
+some n p = list_any p (range_with_len 0 n)

@@ -1,61 +1,46 @@
 -- Bits of masks. Assumes nothing.
-use Rattle.std.specs.Prelude.{◌≡◌, ℕ, zero, suc, ◌*◌, ◌/◌, ◌%◌, ◌^◌, ◌<◌, ◌≤◌, max, true, false, ◌&&◌, ◌||◌, ◌≢◌, MatchBool, ◌==◌, nat_eq, nat_lt, refl}
-use Rattle.std.proofs.Common.{sym, ap, ◌∙◌, inl, inr, pow-suc, one-add, arith, pow_mono}
-use Rattle.std.proofs.Math.Nat.{zero-div, div-eq_of_lt}
+use Rattle.std.specs.Prelude.{◌≡◌, ℕ, suc, ◌*◌, ◌/◌, ◌%◌, ◌^◌, ◌<◌, ◌≤◌, true, false, ◌&&◌, ◌||◌, ◌≢◌, MatchBool, ◌==◌, nat_eq, nat_lt, refl}
+use Rattle.std.proofs.Common.{ap, ◌∙◌, inl, inr, arith, pow_mono}
 use Rattle.std.proofs.Math.Arith.{bin_ind}
-use Rattle.std.specs.Int.Bits.{bit_or, or_step}
-use Rattle.std.proofs.lemmas.Nat.{shr-shr, pow_below, or_shr}
+use Rattle.std.specs.Int.Bits.{bit_or}
+use Rattle.std.proofs.lemmas.Nat.{pow_below}
+use Rattle.std.proofs.lemmas.Nat.Bits.{same_from_bits, bit_at-suc, bit_at-zero, bit_at_or, bit_at-pow_same, bit_at-pow_other, bit_at_above}
 use Rattle.std.proofs.lemmas.Bool.{cases_eq}
 use Rattle.std.proofs.lemmas.Bool.Decides.{nat_tests}
 use Rattle.words.specs.Masks.{bit, lone, SomeBit, NoBit}
 
 -- the union of masks is associative
 pub or_assoc : (a b c : ℕ) → bit_or (bit_or a b) c ≡ bit_or a (bit_or b c)
-or_assoc =
-    bin_ind (λ (n : ℕ). (b c : ℕ) → bit_or (bit_or n b) c ≡ bit_or n (bit_or b c)) (λ b c. refl)
-    (λ n ih b c.
-    let s = or_step n b in
-    let t = or_step b c in
-    let half : bit_or n b / 2 ≡ bit_or (n / 2) (b / 2) = omega arith in
-    let half' : bit_or b c / 2 ≡ bit_or (b / 2) (c / 2) = omega arith in
-    let l = or_step (bit_or n b) c in
-    let r = or_step n (bit_or b c) in
-    let step : bit_or (bit_or n b / 2) (c / 2) ≡ bit_or (n / 2) (bit_or b c / 2) = ap (λ x. bit_or x (c / 2)) half ∙ ih (b / 2) (c / 2) ∙ sym (ap (bit_or (n / 2)) half') in
-    omega arith)
+or_assoc a b c = same_from_bits _ _ (λ i. omega (arith, bit_at_or (bit_or a b) c i, bit_at_or a b i, bit_at_or a (bit_or b c) i, bit_at_or b c i))
 
 -- a bit of a union
 pub bit-bit_or : (a b i : ℕ) → bit (bit_or a b) i ≡ (bit a i || bit b i)
 unfolding bit
-bit-bit_or a b i =
-    let last : bit_or a b / 2 ^ i % 2 ≡ max (a / 2 ^ i % 2) (b / 2 ^ i % 2) = ap (λ x. x % 2) (or_shr a b i) ∙ omega (arith, or_step (a / 2 ^ i) (b / 2 ^ i)) in
-    grind (arith, nat_tests)
+bit-bit_or a b i = let is = bit_at_or a b i in grind (arith, nat_tests)
 
 -- bit j + 1 is bit j of the half
 pub bit_up : (m j : ℕ) → bit m (suc j) ≡ bit (m / 2) j
 unfolding bit
-bit_up m j = ap (λ n. nat_eq (n % 2) 1) (ap (λ e. m / 2 ^ e) (sym (one-add j)) ∙ sym (shr-shr m 1 j))
+bit_up m j = ap (λ b. nat_eq b 1) (bit_at-suc m j)
 
 -- the mask 0 has no bit
 pub bit-none : (i : ℕ) → bit 0 i ≡ false
 unfolding bit
-bit-none i = ap (λ n. nat_eq (n % 2) 1) (zero-div (2 ^ i))
+bit-none i = ap (λ b. nat_eq b 1) (bit_at-zero i)
 
 -- a power of two has one bit
 pub bit_pow : (r i : ℕ) → bit (2 ^ r) i ≡ (i == r)
 unfolding bit
-bit_pow zero zero = grind (arith, nat_tests)
-bit_pow zero (suc j) = bit_up 1 j ∙ bit-none j ∙ grind (arith, nat_tests)
-bit_pow (suc q) zero =
-    let p = pow-suc 2 q in
-    grind (arith, nat_tests)
-bit_pow (suc q) (suc j) =
-    let half : 2 ^ suc q / 2 ≡ 2 ^ q = omega (arith, pow-suc 2 q) in
-    bit_up (2 ^ suc q) j ∙ ap (λ n. bit n j) half ∙ bit_pow q j ∙ grind (arith, nat_tests)
+bit_pow r i =
+    elim (cases_eq i r) [
+      | inl e ↦ let is = ap (λ k. 2 ^ r / 2 ^ k % 2) e ∙ bit_at-pow_same r in grind (arith, nat_tests)
+      | inr other ↦ let is = bit_at-pow_other r i other in grind (arith, nat_tests)
+    ]
 
 -- a mask has no bit from its size up
 pub bit-over : (m i : ℕ) → m < 2 ^ i → bit m i ≡ false
 unfolding bit
-bit-over m i small = ap (λ n. nat_eq (n % 2) 1) (div-eq_of_lt small)
+bit-over m i small = ap (λ b. nat_eq b 1) (bit_at_above m i i small (omega arith))
 
 -- bit 0 of an odd number
 first : (n : ℕ) → n % 2 ≡ 1 → bit n 0 ≡ true

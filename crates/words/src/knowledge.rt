@@ -1,7 +1,7 @@
 // Knowledge, its class, and which classes are decisions.
 ghost use Rattle.std.specs.Prelude.{◌≡◌};
 ghost use Rattle.words.specs.Classes.{class_of, Classified, decision_of};
-ghost use Rattle.words.specs.Knowledge.{same_knowledge, knows_nothing, pooled, Pooled};
+ghost use Rattle.words.specs.Knowledge.{knows_nothing, pooled, Pooled};
 ghost use Rattle.std.proofs.Common.{rules};
 ghost use Rattle.words.specs.MasksLemmas.{or_assoc};
 ghost use Rattle.std.proofs.lemmas.Nat.{or_comm};
@@ -12,7 +12,7 @@ use crate::word::{Joining, Word};
 
 // What an office knows of the vote (in the field's terms, its vote and prepared sets): who voted
 // yes, who voted no, and who is ready, that is knows that all voted yes.
-#[derive(Clone, Copy, PartialEq, Eq)]
+#[derive(PartialEq, Eq, Clone, Copy, Debug)]
 pub struct Knowledge {
     pub yes: Offices,
     pub no: Offices,
@@ -20,13 +20,7 @@ pub struct Knowledge {
 }
 
 impl Word for Knowledge {
-    ghost alike = { same_knowledge };
-
-    ghost decided = { Prim.search rules };
-
-    fn same(&self, other: &Knowledge) -> bool {
-        self.yes == other.yes && self.no == other.no && self.ready == other.ready
-    }
+    ghost exact = { Prim.search rules };
 }
 
 // Two knowledges join set by set.
@@ -64,7 +58,7 @@ impl Joining for Knowledge {
 }
 
 // What a knowledge says of the release (in the field's terms, the class of a site's local state).
-#[derive(Clone, Copy, PartialEq, Eq)]
+#[derive(Clone, Copy, Debug, PartialEq, Eq)]
 pub enum Class {
     Noncommittable,
     Committable,
@@ -73,7 +67,7 @@ pub enum Class {
 }
 
 // What an office decides: to hand the item over, or to keep it.
-#[derive(Clone, Copy, PartialEq, Eq)]
+#[derive(Clone, Copy, Debug, PartialEq, Eq)]
 pub enum Decision {
     Commit,
     Abort,

@@ -2,7 +2,6 @@
 #![tactic(auto)]
 
 mod knowledge;
-mod mask;
 mod offices;
 mod term;
 mod word;

@@ -1,6 +1,6 @@
 // Termination words.
 ghost use Rattle.std.specs.Prelude.{◌≡◌};
-ghost use Rattle.words.specs.Terms.{same_term, higher, Higher};
+ghost use Rattle.words.specs.Terms.{higher, Higher};
 ghost use Rattle.words.specs.declared.term.TermWord.TheVariants.{Noncommittable};
 ghost use Rattle.std.proofs.Common.{rules};
 
@@ -8,7 +8,7 @@ use crate::word::{Joining, Word};
 
 // A termination word: what an office says of its state in a round of the termination protocol
 // (in the field's terms, the state message), in rising order.
-#[derive(Clone, Copy, PartialEq, Eq)]
+#[derive(Clone, Copy, Debug, PartialEq, Eq, PartialOrd, Ord)]
 pub enum TermWord {
     Noncommittable,
     Committable,
@@ -16,13 +16,7 @@ pub enum TermWord {
 }
 
 impl Word for TermWord {
-    ghost alike = { same_term };
-
-    ghost decided = { Prim.search rules };
-
-    fn same(&self, other: &TermWord) -> bool {
-        *self as u8 == *other as u8
-    }
+    ghost exact = { Prim.search rules };
 }
 
 // Two words join to the higher.
@@ -47,10 +41,6 @@ impl Joining for TermWord {
         ensures value { result ≡ higher self other }
         ensures rule { Higher self other result }
     {
-        match (self, other) {
-            (TermWord::Abort, _) | (_, TermWord::Abort) => TermWord::Abort,
-            (TermWord::Committable, _) | (_, TermWord::Committable) => TermWord::Committable,
-            (TermWord::Noncommittable, TermWord::Noncommittable) => TermWord::Noncommittable,
-        }
+        self.max(other)
     }
 }

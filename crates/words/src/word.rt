@@ -1,22 +1,17 @@
 // Words of any kind, words that can be joined, and the sum of a list of them.
-ghost use Rattle.std.specs.Prelude.{◌≡◌, Bool, Decides};
+ghost use Rattle.std.specs.Prelude.{◌≡◌, Decides};
+ghost use Rattle.std.specs.List.{fold};
 ghost use Rattle.words.specs.Sum.{sum_of, LeastBound, AnyOrder};
 
 // A kind of word (in the field's terms, a kind of message): any two can be told equal or different.
-pub trait Word: Sized {
-    // Whether two words are equal, as a test.
-    ghost alike: { Self → Self → Bool };
-
-    fn same(&self, other: &Self) -> bool
-        ensures { result ≡ alike self.now other.now };
-
-    // The test is exact.
-    ghost decided: { (x y : Self) → Decides (alike x y) (x ≡ y) };
+pub trait Word: PartialEq {
+    // Their equality is exact.
+    ghost exact: { (x y : Self) → Decides (Self.eq x y) (x ≡ y) };
 }
 
 // A kind of word that can be summed: a join (a least upper bound, as in a semilattice) and an empty
 // word, its least element.
-pub trait Joining: Word {
+pub trait Joining: Word + Sized {
     // The empty word.
     ghost nil: { Self };
 
@@ -51,15 +46,11 @@ pub fn sum<W: Joining + Copy>(words: &[W]) -> W
     folded(words)
 }
 
-// Joins the words to the empty word, one after another.
+// The words joined to the empty word one after another, from the first on.
 fn folded<W: Joining + Copy>(words: &[W]) -> W
-    ensures value { result ≡ sum_of W.Joining.nil W.Joining.join words.now }
-    ensures bound { LeastBound W.Joining.join words.now result }
-    ensures any_order { AnyOrder W.Joining.nil W.Joining.join words.now result }
+    ensures { result ≡ fold W.Joining.join W.Joining.nil words.now }
 {
-    let mut total = W::empty();
-    for word in words {
-        total = total.joined(*word);
-    }
-    total
+    words
+        .iter()
+        .fold(W::empty(), |total, word| total.joined(*word))
 }
