@@ -1,19 +1,17 @@
 -- What a write of one entry means, for every layout. Assumes nothing.
-use Rattle.std.proofs.Common.{◌≡◌, ℕ, ◌-◌, ◌/◌, ◌%◌, ◌<◌, min, true, false, cond, ◌&&◌, eqb, ◌≢◌, List, length, get_or, set, replicate, sym, ap, ◌∙◌, ⊎_elim, div-mul-le_self, arith}
+use Rattle.std.proofs.Common.{◌≡◌, ℕ, ◌-◌, ◌/◌, ◌%◌, ◌<◌, min, true, false, cond, ◌&&◌, eqb, ◌≢◌, List, length, get_or, set, replicate, sym, refl, ap, subst, ◌∙◌, ⊎_elim, inl, inr, div-mul-le_self, arith}
 use lib.Arith.{digits_lt, digits_div, digits_mod}
-use Rattle.std.proofs.lemmas.List.{length-set, length-replicate, get_or-set_same, get_or-set_other, get_or-replicate, get_or_past}
+use Rattle.std.proofs.lemmas.List.{length-set, length-replicate, get_or-set_same, get_or-set_other, get_or-replicate, get_or_past, get_or_default}
+use Rattle.std.proofs.Math.Bool.{and-false}
 use Rattle.std.proofs.lemmas.Bool.{cases_Bool, cases_eq, cases_lt, cond-true, cond-false}
 use Rattle.std.proofs.lemmas.Bool.Decides.{nat_tests}
 use Rattle.posts.specs.declared.place.Place.{Place}
-use Rattle.posts.specs.declared.place.Place.TheVariants.{Empty}
-use Rattle.posts.specs.Layouts.{Layout, reach_of, index_of, places_of}
-use Rattle.posts.specs.Places.{legal, within, put, no_words}
-
--- what a layout has to satisfy: each legal pair has a slot of the round, a slot has one sender, and the blank entry says nothing
-pub record Sound {E W : Type 0} (layout : Layout E W) : Type 0 where
-  pub fits : (s r : ℕ) → legal s r ≡ true → layout.slot s r < layout.size
-  pub sender : (s r s' r' : ℕ) → legal s r ≡ true → legal s' r' ≡ true → layout.slot s r ≡ layout.slot s' r' → s ≡ s'
-  pub silent : (r : ℕ) → layout.says layout.blank r ≡ Empty
+use Rattle.posts.specs.declared.place.Place.TheVariants.{Empty, Waiting, Taken}
+use Rattle.posts.specs.declared.address.Address.{Address}
+use Rattle.posts.specs.declared.fault.PostFault.{PostFault}
+use Rattle.posts.specs.Addresses.{Refused}
+use Rattle.posts.specs.Layouts.{Layout, Sound, reach_of, index_of, place_index, places_of}
+use Rattle.posts.specs.Places.{Consistent, Holds, legal, within, put, vacant, no_words}
 
 -- what the tests of a place tell
 hit_parts : (s r k s' r' k' : ℕ) → (eqb s' s && (eqb r' r && eqb k' k)) ≡ true → (s' ≡ s) × (r' ≡ r) × (k' ≡ k)
@@ -27,10 +25,6 @@ lawful_parts s r n k h = (grind (arith, nat_tests), grind (arith, nat_tests))
 
 lawful : (s r n k : ℕ) → legal s r ≡ true → within n k ≡ true → (legal s r && within n k) ≡ true
 lawful s r n k pair round = grind (arith, nat_tests)
-
--- where the entry of a place stands
-abbrev pub place_index : {E W : Type 0} → Layout E W → ℕ → ℕ → ℕ → ℕ
-place_index layout s r k = index_of layout.size (layout.slot s r) k
 
 module _ {E W : Type 0} (layout : Layout E W) (sound : Sound layout) where
   -- two places with one entry have one sender, one round and one slot
@@ -99,6 +93,39 @@ module _ {E W : Type 0} (layout : Layout E W) (sound : Sound layout) where
       pub places_set : places_of layout (set memory (place_index layout s r k) e) ≡ put (places_of layout memory) s r k x
       places_set i s' r' k' = set_at s' r' k' i
 
+  -- the entry of a place is read, and written with the word posted or taken
+  module _ (memory : List E) (s r k : ℕ) (pair : legal s r ≡ true) (round : within (reach_of layout memory) k ≡ true) where
+    abbrev entry : E
+    entry = get_or memory (place_index layout s r k) layout.blank
+
+    low : r < 16
+    low = grind (arith, nat_tests)
+
+    -- what the entry says of the receivers that share it
+    said : (r' : ℕ) → legal s r' ≡ true → layout.slot s r' ≡ layout.slot s r → places_of layout memory s r' k ≡ layout.says entry r'
+    said r' pair' slots = says_at memory s r' k pair' round ∙ ap (λ z. layout.says (get_or memory (index_of layout.size z k) layout.blank) r') slots
+
+    written : (e : E) (x : Place W) → layout.says e r ≡ x → ((r' : ℕ) → legal s r' ≡ true → (r' ≡ r → ⊥) → layout.slot s r' ≡ layout.slot s r → layout.says e r' ≡ layout.says entry r') → (new : E) → new ≡ e → places_of layout (set memory (place_index layout s r k) new) ≡ put (places_of layout memory) s r k x
+    written e x mine others new made = ap (λ y. places_of layout (set memory (place_index layout s r k) y)) made ∙ places_set memory s r k pair round e x mine others
+
+    pub stored_posted : (w : W) → Consistent (places_of layout memory) s k w → vacant (places_of layout memory s r k) ≡ true → (new : E) → new ≡ layout.posted entry r w → places_of layout (set memory (place_index layout s r k) new) ≡ put (places_of layout memory) s r k (Waiting w)
+    stored_posted w agree free =
+        written (layout.posted entry r w) (Waiting w) (sound.waits entry r w low (sym (ap vacant (said r pair refl)) ∙ free))
+        (λ r' pair' other slots. sound.posts s r r' pair pair' other slots entry w (λ v h. agree r' v (subst (λ x. Holds x v) (sym (said r' pair' slots)) h)))
+
+    pub stored_taken : (w : W) → places_of layout memory s r k ≡ Waiting w → (new : E) → new ≡ layout.taken entry r w → places_of layout (set memory (place_index layout s r k) new) ≡ put (places_of layout memory) s r k (Taken w)
+    stored_taken w here =
+        written (layout.taken entry r w) (Taken w) (sound.marked entry r w low (sym (said r pair refl) ∙ here))
+        (λ r' pair' other slots. sound.takes s r r' pair pair' other slots entry w)
+
+  -- the place at an address, as it is read from the entry of the same address once it was asked for
+  pub place_read : (memory : List E) (at b : Address) (far reach i : ℕ) (e : E) (x : Place W) → b ≡ at → far ≡ reach → reach ≡ reach_of layout memory → legal b.sender b.receiver ≡ true → within far b.round ≡ true → i ≡ place_index layout b.sender b.receiver b.round → e ≡ get_or memory i e → x ≡ layout.says e at.receiver → x ≡ places_of layout memory at.sender at.receiver at.round
+  place_read memory at b far reach i e x same asked is pair round place read says =
+      let round' = ap (λ n. within n b.round) (sym (asked ∙ is)) ∙ round in
+      let there = place_index layout b.sender b.receiver b.round in
+      let found : e ≡ get_or memory there layout.blank = read ∙ ap (λ j. get_or memory j e) place ∙ get_or_default memory there e layout.blank (within_memory memory b.sender b.receiver b.round pair round') in
+      says ∙ ap (λ a. layout.says e a.receiver) (sym same) ∙ ap (λ y. layout.says y b.receiver) found ∙ sym (says_at memory b.sender b.receiver b.round pair round') ∙ ap (λ a. places_of layout memory a.sender a.receiver a.round) same
+
   -- a memory of blank entries
   pub cleared : (memory memory' : List E) → memory' ≡ replicate (length memory) layout.blank → (reach_of layout memory' ≡ reach_of layout memory) × (places_of layout memory' ≡ no_words)
   unfolding places_of
@@ -115,3 +142,11 @@ module _ {E W : Type 0} (layout : Layout E W) (sound : Sound layout) where
           let b = legal s r && within (reach_of layout memory') k in
           ap (λ y. cond b y Empty) (ap (λ y. layout.says y r) (ap (λ m. get_or m (place_index layout s r k) layout.blank) is ∙ blanks (place_index layout s r k)) ∙ sound.silent r) ∙
           ⊎_elim (λ t. cond-true b Empty Empty t) (λ t. cond-false b Empty Empty t) (cases_Bool b)
+
+-- an address that is refused lies outside
+pub refused_outside : (s r k reach n : ℕ) (e : PostFault) → reach ≡ n → Refused s r k reach e → (legal s r && within n k) ≡ false
+refused_outside s r k reach n e is h =
+    elim h [
+      | inl p ↦ ap (λ b. b && within n k) p.0
+      | inr p ↦ ap (λ b. legal s r && b) (ap (λ m. within m k) (sym is) ∙ p.1) ∙ and-false (legal s r)
+    ]

@@ -1,4 +1,2 @@
-pub mod Boards
-pub mod Grids
 pub mod Layouts
 pub mod Uses

@@ -35,4 +35,4 @@ entry_taken e r = record { word = e.word; addressed = e.addressed; taken = added
 
 -- 16 entries for a round, one for each sender
 abbrev pub board : {W : Type 0} → Layout (BoardEntry W) W
-board = record { size = 16; slot = λ s r. s; says = entry_says; blank = blank_entry }
+board = record { size = 16; slot = λ s r. s; says = entry_says; blank = blank_entry; posted = entry_posted; taken = λ e r w. entry_taken e r }

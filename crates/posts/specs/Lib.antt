@@ -1,7 +1,10 @@
+pub mod Addresses
 pub mod Boards
+pub mod BoardsLemmas
 pub mod Calls
 pub mod Faults
 pub mod Grids
+pub mod GridsLemmas
 pub mod Layouts
 pub mod Places
 pub mod Tests

@@ -5,18 +5,18 @@ ghost use Rattle.std.proofs.Common.{rules};
 use refusals::Refusal;
 
 // What posting and taking are refused for.
-#[derive(Clone, Copy, PartialEq, Eq)]
+#[derive(Clone, Copy, Debug, PartialEq, Eq)]
 pub enum PostFault {
     // The two offices are not both below 16, or they are the same.
-    Offices,
+    Offices = 31,
     // The round is not 1 to the reach.
-    Round,
+    Round = 32,
     // The sender has another word in that round.
-    OtherWord,
+    OtherWord = 33,
     // The place holds a word already.
-    Filled,
+    Filled = 34,
     // No word waits in the place.
-    NothingWaits,
+    NothingWaits = 35,
 }
 
 impl Refusal for PostFault {
@@ -25,12 +25,6 @@ impl Refusal for PostFault {
     ghost digits = { Prim.search rules };
 
     fn number(&self) -> u8 {
-        match self {
-            PostFault::Offices => 31,
-            PostFault::Round => 32,
-            PostFault::OtherWord => 33,
-            PostFault::Filled => 34,
-            PostFault::NothingWaits => 35,
-        }
+        *self as u8
     }
 }

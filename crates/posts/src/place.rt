@@ -6,7 +6,7 @@ use words::Word;
 
 // A place (in the field's terms, a slot of a mailbox): nothing, a word that waits to be taken, or a word
 // that was taken.
-#[derive(Clone, Copy)]
+#[derive(Clone, Copy, Debug, PartialEq, Eq)]
 pub enum Place<W> {
     Empty,
     Waiting(W),
@@ -28,12 +28,11 @@ impl<W: Word + Copy> Place<W> {
 
     // Whether the word in the place, if there is one, equals this word.
     pub fn agrees_with(&self, word: &W) -> bool
-        ensures { result ≡ agrees W.Word.alike word.now self.now }
+        ensures { result ≡ agrees W.eq word.now self.now }
     {
         match self {
             Place::Empty => true,
-            Place::Waiting(other) => other.same(word),
-            Place::Taken(other) => other.same(word),
+            Place::Waiting(other) | Place::Taken(other) => other == word,
         }
     }
 }

@@ -3,6 +3,7 @@ ghost use Rattle.std.specs.Prelude.{◌≡◌, ℕ};
 ghost use Rattle.posts.specs.Calls.{Posted, Took};
 ghost use Rattle.posts.specs.Places.{Places, PostLaws};
 
+use crate::address::Address;
 use crate::fault::PostFault;
 use crate::place::Place;
 use words::Word;
@@ -19,9 +20,9 @@ pub trait PostView<W: Word + Copy> {
     // What holds of every post.
     ghost laws: { PostLaws places reach };
 
-    // What the place of a sender, a receiver and a round holds.
-    fn place(&self, sender: u8, receiver: u8, round: u8) -> Place<W>
-        ensures { result ≡ places self.now sender receiver round };
+    // What the place at an address holds.
+    fn place(&self, at: Address) -> Place<W>
+        ensures { result ≡ places self.now at.sender at.receiver at.round };
 
     fn reach(&self) -> u8
         ensures { result ≡ reach self.now };
@@ -31,12 +32,12 @@ pub trait PostView<W: Word + Copy> {
 // round).
 pub trait Post<W: Word + Copy>: PostView<W> {
     // Fills an empty place with the word, which then waits there.
-    fn post(&mut self, sender: u8, receiver: u8, round: u8, word: W) -> Result<(), PostFault>
+    fn post(&mut self, at: Address, word: W) -> Result<(), PostFault>
         ensures reach { Self.PostView.reach self.new ≡ Self.PostView.reach self.old }
-        ensures answer { Posted (Self.PostView.places self.old) (Self.PostView.reach self.old) sender receiver round word (Self.PostView.places self.new) result };
+        ensures answer { Posted (Self.PostView.places self.old) (Self.PostView.reach self.old) at.sender at.receiver at.round word (Self.PostView.places self.new) result };
 
     // Gives the word that waits in a place, and marks it taken.
-    fn take(&mut self, sender: u8, receiver: u8, round: u8) -> Result<W, PostFault>
+    fn take(&mut self, at: Address) -> Result<W, PostFault>
         ensures reach { Self.PostView.reach self.new ≡ Self.PostView.reach self.old }
-        ensures answer { Took (Self.PostView.places self.old) (Self.PostView.reach self.old) sender receiver round (Self.PostView.places self.new) result };
+        ensures answer { Took (Self.PostView.places self.old) (Self.PostView.reach self.old) at.sender at.receiver at.round (Self.PostView.places self.new) result };
 }

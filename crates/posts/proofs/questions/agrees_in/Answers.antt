@@ -1,22 +1,18 @@
-use Rattle.std.proofs.Common.{◌≡◌, ap, ◌∙◌, arith}
+use Rattle.std.proofs.Common.{◌≡◌, rules, tests, arith}
 use Rattle.std.proofs.lemmas.Bool.Decides.{Decides-at}
+use Rattle.std.proofs.lemmas.Iterator.{YieldsList-from_range}
+use Rattle.std.proofs.lemmas.Iterator.Search.{all_from_yields_List}
 use Rattle.words.specs.Below.{every}
-use Rattle.words.proofs.Below.{every-none, every_more}
 use Rattle.posts.specs.Places.{agrees, consistent}
 use Rattle.posts.proofs.Uses.{consistent_decides}
 use Rattle.posts.proofs.questions.agrees_in.Goals as goal
 
-pub loop-receiver-init : goal.loop-receiver-init
-loop-receiver-init g c = every-none _
-
-pub loop-receiver-preserved : goal.loop-receiver-preserved
-loop-receiver-preserved g c = every_more _ c.loop-receiver.receiver _ _ (c.agrees_with-all.ensures ∙ ap (agrees g.W.Word.alike c.args.word.now) c.place.ensures) c.loop-receiver.invariant
-
-pub returns : goal.returns
-returns g c =
+pub returns-clause-rule : goal.returns-clause-rule
+unfolding every
+returns-clause-rule g c =
     let a = c.args in
     let p = g.P.PostView.places a.post.now in
-    let alike = g.W.Word.alike in
-    let end : c.loop-receiver.receiver ≡ 16 = omega arith in
-    let is : c.loop-receiver.all ≡ consistent alike p a.sender a.round a.word.now = c.loop-receiver.invariant ∙ ap (λ m. every m (λ r. agrees alike a.word.now (p a.sender r a.round))) end in
-    record { value = is; rule = Decides-at _ _ is (consistent_decides p (g.P.PostView.reach a.post.now) (g.P.PostView.laws.outside a.post.now) alike g.met.W.Word.decided a.sender a.round a.word.now) }
+    let eq = g.W.PartialEq.eq in
+    let w = a.word.now in
+    let is : c.all.result ≡ consistent eq p a.sender a.round w = all_from_yields_List (λ r. agrees eq w (p a.sender r a.round)) _ _ c.all.result c.all.ensures.ran (YieldsList-from_range 0 16 16 (cc) (omega arith)) (λ x b q k. search (rules, tests)) in
+    Decides-at _ _ is (consistent_decides p (g.P.PostView.reach a.post.now) (g.P.PostView.laws.outside a.post.now) eq g.met.W.Word.exact a.sender a.round w)
