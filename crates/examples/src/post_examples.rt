@@ -1,74 +1,82 @@
 // Posts over memories of several sizes, for both kinds of word.
-use posts::{Board, BoardEntry, Grid, Place, Post, PostView, any_waiting, ever_posted};
+use posts::{
+    Address, Board, BoardEntry, Entry, Grid, Place, Post, PostView, any_waiting, ever_posted,
+};
 use refusals::Refusal;
 use std::process::Abort;
 use words::{Joining, Knowledge, Offices, TermWord, Word};
 
+// The address of a sender, a receiver and a round.
+fn at(sender: u8, receiver: u8, round: u8) -> Address {
+    Address {
+        sender,
+        receiver,
+        round,
+    }
+}
+
 // The number that refuses to post, or 0.
-fn posts<W: Word + Copy, P: Post<W>>(post: &mut P, s: u8, r: u8, k: u8, word: W) -> u8 {
-    match post.post(s, r, k, word) {
+fn posts<W: Word + Copy, P: Post<W>>(post: &mut P, at: Address, word: W) -> u8 {
+    match post.post(at, word) {
         Ok(()) => 0,
         Err(fault) => fault.number(),
     }
 }
 
 // The number that refuses to take, or 0 where this word is taken, or 1 where another is.
-fn takes<W: Word + Copy, P: Post<W>>(post: &mut P, s: u8, r: u8, k: u8, word: &W) -> u8 {
-    match post.take(s, r, k) {
-        Ok(taken) => { if taken.same(word) { 0 } else { 1 } }
+fn takes<W: Word + Copy, P: Post<W>>(post: &mut P, at: Address, word: &W) -> u8 {
+    match post.take(at) {
+        Ok(taken) if taken == *word => 0,
+        Ok(_) => 1,
         Err(fault) => fault.number(),
     }
 }
 
 // Both posting and taking are refused by this number.
-fn refuses<W: Word + Copy, P: Post<W>>(
-    post: &mut P,
-    s: u8,
-    r: u8,
-    k: u8,
-    word: W,
-    number: u8,
-) -> bool {
-    posts(post, s, r, k, word) == number && takes(post, s, r, k, &word) == number
+fn refuses<W: Word + Copy, P: Post<W>>(post: &mut P, at: Address, word: W, number: u8) -> bool {
+    posts(post, at, word) == number && takes(post, at, &word) == number
 }
 
 // A new post of this reach: offices and rounds that are not legal, 31 before 32.
 fn legal_only<W: Word + Copy, P: Post<W>>(rt: &impl Abort, post: &mut P, reach: u8, a: W) {
     assert_eq!(rt; post.reach(), reach);
-    assert!(rt; refuses(post, 16, 1, 1, a, 31) && refuses(post, 1, 16, 1, a, 31));
-    assert!(rt; refuses(post, 255, 0, 1, a, 31) && refuses(post, 3, 3, 1, a, 31));
-    assert!(rt; refuses(post, 3, 3, 0, a, 31) && refuses(post, 15, 14, 0, a, 32));
-    assert!(rt; refuses(post, 0, 1, reach.saturating_add(1), a, 32));
-    assert!(rt; !ever_posted(post) && !any_waiting(post, 0, 1) && post.place(0, 1, 1).is_empty());
+    assert!(rt; refuses(post, at(16, 1, 1), a, 31) && refuses(post, at(1, 16, 1), a, 31));
+    assert!(rt; refuses(post, at(255, 0, 1), a, 31) && refuses(post, at(3, 3, 1), a, 31));
+    assert!(rt; refuses(post, at(3, 3, 0), a, 31) && refuses(post, at(15, 14, 0), a, 32));
+    assert!(rt; refuses(post, at(0, 1, reach.saturating_add(1)), a, 32));
+    assert!(rt;
+        !ever_posted(post) && !any_waiting(post, 0, 1) && post.place(at(0, 1, 1)).is_empty()
+    );
 }
 
 // The same post, if it reaches a round: words wait and are taken, and a sender has one word in a round.
 fn exchanges<W: Word + Copy, P: Post<W>>(rt: &impl Abort, post: &mut P, a: W, b: W) {
-    assert!(rt; posts(post, 0, 1, 1, a) == 0 && any_waiting(post, 0, 1) && ever_posted(post));
-    assert!(rt; !any_waiting(post, 1, 0) && post.place(0, 1, 1).is_waiting());
+    assert!(rt; posts(post, at(0, 1, 1), a) == 0 && any_waiting(post, 0, 1) && ever_posted(post));
+    assert!(rt; !any_waiting(post, 1, 0) && post.place(at(0, 1, 1)).is_waiting());
     // a second word that differs, and one that is the same
-    assert!(rt; posts(post, 0, 1, 1, b) == 33 && posts(post, 0, 1, 1, a) == 34);
-    assert!(rt; posts(post, 0, 2, 1, b) == 33 && posts(post, 0, 2, 1, a) == 0);
+    assert!(rt; posts(post, at(0, 1, 1), b) == 33 && posts(post, at(0, 1, 1), a) == 34);
+    assert!(rt; posts(post, at(0, 2, 1), b) == 33 && posts(post, at(0, 2, 1), a) == 0);
     // another sender may post another word
-    assert!(rt; posts(post, 15, 0, 1, b) == 0 && takes(post, 15, 0, 1, &b) == 0);
+    assert!(rt; posts(post, at(15, 0, 1), b) == 0 && takes(post, at(15, 0, 1), &b) == 0);
     // a word is taken once, and counts as the sender's word after that
-    assert!(rt; takes(post, 0, 1, 1, &a) == 0 && takes(post, 0, 1, 1, &a) == 35);
-    assert!(rt; posts(post, 0, 1, 1, b) == 33 && posts(post, 0, 1, 1, a) == 34);
-    assert!(rt; posts(post, 0, 3, 1, b) == 33 && takes(post, 1, 0, 1, &a) == 35);
+    assert!(rt; takes(post, at(0, 1, 1), &a) == 0 && takes(post, at(0, 1, 1), &a) == 35);
+    assert!(rt; posts(post, at(0, 1, 1), b) == 33 && posts(post, at(0, 1, 1), a) == 34);
+    assert!(rt; posts(post, at(0, 3, 1), b) == 33 && takes(post, at(1, 0, 1), &a) == 35);
     assert!(rt; !any_waiting(post, 0, 1) && any_waiting(post, 0, 2) && ever_posted(post));
     // the taken word stays in its place, and the other waits still
-    let taken = post.place(0, 1, 1);
+    let taken = post.place(at(0, 1, 1));
     assert!(rt; !taken.is_empty() && !taken.is_waiting() && taken.agrees_with(&a));
-    assert!(rt; !taken.agrees_with(&b) && post.place(0, 2, 1).is_waiting());
+    assert!(rt; !taken.agrees_with(&b) && post.place(at(0, 2, 1)).is_waiting());
 }
 
 // Outside legal offices and rounds a place is empty and no word waits, whatever was posted.
 fn empty_outside<W: Word + Copy, P: Post<W>>(rt: &impl Abort, post: &P, reach: u8) {
     assert!(rt;
-        post.place(0, 2, 0).is_empty() && post.place(0, 2, reach.saturating_add(1)).is_empty()
+        post.place(at(0, 2, 0)).is_empty()
+            && post.place(at(0, 2, reach.saturating_add(1))).is_empty()
     );
-    assert!(rt; post.place(16, 2, 1).is_empty() && post.place(0, 16, 1).is_empty());
-    assert!(rt; post.place(0, 255, 1).is_empty() && post.place(2, 2, 1).is_empty());
+    assert!(rt; post.place(at(16, 2, 1)).is_empty() && post.place(at(0, 16, 1)).is_empty());
+    assert!(rt; post.place(at(0, 255, 1)).is_empty() && post.place(at(2, 2, 1)).is_empty());
     assert!(rt;
         !any_waiting(post, 16, 2) && !any_waiting(post, 0, 255) && !any_waiting(post, 2, 2)
     );
@@ -76,14 +84,14 @@ fn empty_outside<W: Word + Copy, P: Post<W>>(rt: &impl Abort, post: &P, reach: u
 
 // The last round that the post reaches, and the first that it does not.
 fn last_round<W: Word + Copy, P: Post<W>>(rt: &impl Abort, post: &mut P, reach: u8, a: W) {
-    assert!(rt; posts(post, 7, 8, reach, a) == 0 && takes(post, 7, 8, reach, &a) == 0);
-    assert!(rt; refuses(post, 7, 9, reach.saturating_add(1), a, 32));
+    assert!(rt; posts(post, at(7, 8, reach), a) == 0 && takes(post, at(7, 8, reach), &a) == 0);
+    assert!(rt; refuses(post, at(7, 9, reach.saturating_add(1)), a, 32));
 }
 
 fn tried<W: Word + Copy, P: Post<W>>(rt: &impl Abort, post: &mut P, reach: u8, a: W, b: W) {
     legal_only(rt, post, reach, a);
     if reach == 0 {
-        assert!(rt; refuses(post, 0, 1, 1, a, 32));
+        assert!(rt; refuses(post, at(0, 1, 1), a, 32));
         return;
     }
     exchanges(rt, post, a, b);
@@ -144,7 +152,7 @@ fn posts_for_knowledge(rt: HostRuntime) {
 fn a_new_board_is_empty(rt: HostRuntime) {
     let mut entries = [BoardEntry::blank(); 48];
     let mut first = Board::new(&mut entries);
-    assert!(rt; posts(&mut first, 0, 1, 1, A) == 0 && ever_posted(&first));
+    assert!(rt; posts(&mut first, at(0, 1, 1), A) == 0 && ever_posted(&first));
     let second = Board::new(&mut entries);
-    assert!(rt; !ever_posted(&second) && second.place(0, 1, 1).is_empty());
+    assert!(rt; !ever_posted(&second) && second.place(at(0, 1, 1)).is_empty());
 }
