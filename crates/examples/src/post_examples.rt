@@ -15,26 +15,14 @@ fn at(sender: u8, receiver: u8, round: u8) -> Address {
     }
 }
 
-// The number that refuses to post, or 0.
-fn posts<W: Word + Copy, P: Post<W>>(post: &mut P, at: Address, word: W) -> u8 {
-    match post.post(at, word) {
-        Ok(()) => 0,
-        Err(fault) => fault.number(),
-    }
-}
-
-// The number that refuses to take, or 0 where this word is taken, or 1 where another is.
-fn takes<W: Word + Copy, P: Post<W>>(post: &mut P, at: Address, word: &W) -> u8 {
-    match post.take(at) {
-        Ok(taken) if taken == *word => 0,
-        Ok(_) => 1,
-        Err(fault) => fault.number(),
-    }
+// What a call answered, with the number of its refusal.
+fn numbered<T, E: Refusal + Drop>(answer: Result<T, E>) -> Result<T, u8> {
+    answer.map_err(|fault| fault.number())
 }
 
 // Both posting and taking are refused by this number.
 fn refuses<W: Word + Copy, P: Post<W>>(post: &mut P, at: Address, word: W, number: u8) -> bool {
-    posts(post, at, word) == number && takes(post, at, &word) == number
+    numbered(post.post(at, word)) == Err(number) && numbered(post.take(at)) == Err(number)
 }
 
 // A new post of this reach: offices and rounds that are not legal, 31 before 32.
@@ -51,17 +39,37 @@ fn legal_only<W: Word + Copy, P: Post<W>>(rt: &impl Abort, post: &mut P, reach: 
 
 // The same post, if it reaches a round: words wait and are taken, and a sender has one word in a round.
 fn exchanges<W: Word + Copy, P: Post<W>>(rt: &impl Abort, post: &mut P, a: W, b: W) {
-    assert!(rt; posts(post, at(0, 1, 1), a) == 0 && any_waiting(post, 0, 1) && ever_posted(post));
+    assert!(rt;
+        numbered(post.post(at(0, 1, 1), a)) == Ok(())
+            && any_waiting(post, 0, 1)
+            && ever_posted(post)
+    );
     assert!(rt; !any_waiting(post, 1, 0) && post.place(at(0, 1, 1)).is_waiting());
     // a second word that differs, and one that is the same
-    assert!(rt; posts(post, at(0, 1, 1), b) == 33 && posts(post, at(0, 1, 1), a) == 34);
-    assert!(rt; posts(post, at(0, 2, 1), b) == 33 && posts(post, at(0, 2, 1), a) == 0);
+    assert!(rt;
+        numbered(post.post(at(0, 1, 1), b)) == Err(33)
+            && numbered(post.post(at(0, 1, 1), a)) == Err(34)
+    );
+    assert!(rt;
+        numbered(post.post(at(0, 2, 1), b)) == Err(33)
+            && numbered(post.post(at(0, 2, 1), a)) == Ok(())
+    );
     // another sender may post another word
-    assert!(rt; posts(post, at(15, 0, 1), b) == 0 && takes(post, at(15, 0, 1), &b) == 0);
+    assert!(rt;
+        numbered(post.post(at(15, 0, 1), b)) == Ok(()) && numbered(post.take(at(15, 0, 1))) == Ok(b)
+    );
     // a word is taken once, and counts as the sender's word after that
-    assert!(rt; takes(post, at(0, 1, 1), &a) == 0 && takes(post, at(0, 1, 1), &a) == 35);
-    assert!(rt; posts(post, at(0, 1, 1), b) == 33 && posts(post, at(0, 1, 1), a) == 34);
-    assert!(rt; posts(post, at(0, 3, 1), b) == 33 && takes(post, at(1, 0, 1), &a) == 35);
+    assert!(rt;
+        numbered(post.take(at(0, 1, 1))) == Ok(a) && numbered(post.take(at(0, 1, 1))) == Err(35)
+    );
+    assert!(rt;
+        numbered(post.post(at(0, 1, 1), b)) == Err(33)
+            && numbered(post.post(at(0, 1, 1), a)) == Err(34)
+    );
+    assert!(rt;
+        numbered(post.post(at(0, 3, 1), b)) == Err(33)
+            && numbered(post.take(at(1, 0, 1))) == Err(35)
+    );
     assert!(rt; !any_waiting(post, 0, 1) && any_waiting(post, 0, 2) && ever_posted(post));
     // the taken word stays in its place, and the other waits still
     let taken = post.place(at(0, 1, 1));
@@ -84,7 +92,10 @@ fn empty_outside<W: Word + Copy, P: Post<W>>(rt: &impl Abort, post: &P, reach: u
 
 // The last round that the post reaches, and the first that it does not.
 fn last_round<W: Word + Copy, P: Post<W>>(rt: &impl Abort, post: &mut P, reach: u8, a: W) {
-    assert!(rt; posts(post, at(7, 8, reach), a) == 0 && takes(post, at(7, 8, reach), &a) == 0);
+    assert!(rt;
+        numbered(post.post(at(7, 8, reach), a)) == Ok(())
+            && numbered(post.take(at(7, 8, reach))) == Ok(a)
+    );
     assert!(rt; refuses(post, at(7, 9, reach.saturating_add(1)), a, 32));
 }
 
@@ -152,7 +163,7 @@ fn posts_for_knowledge(rt: HostRuntime) {
 fn a_new_board_is_empty(rt: HostRuntime) {
     let mut entries = [BoardEntry::blank(); 48];
     let mut first = Board::new(&mut entries);
-    assert!(rt; posts(&mut first, at(0, 1, 1), A) == 0 && ever_posted(&first));
+    assert!(rt; numbered(first.post(at(0, 1, 1), A)) == Ok(()) && ever_posted(&first));
     let second = Board::new(&mut entries);
     assert!(rt; !ever_posted(&second) && second.place(at(0, 1, 1)).is_empty());
 }
