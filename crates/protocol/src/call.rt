@@ -2,7 +2,7 @@
 
 // What an office does, or what is told to it. The numbers may be any: a call asks first whether they
 // are offices of the release.
-#[derive(Clone, Copy)]
+#[derive(Clone, Copy, Debug, PartialEq, Eq)]
 pub enum Call {
     // votes yes (1) or no (0)
     Vote { office: u8, vote: u8 },

@@ -3,7 +3,7 @@ use words::{Decision, Knowledge, Offices, TermWord};
 
 // What a release keeps of one office (in the field's terms, the local state of a site). It keeps no
 // copy of what the office heard: words that were taken stay in the posts.
-#[derive(Clone, Copy)]
+#[derive(Clone, Copy, PartialEq, Eq)]
 pub struct Office {
     // it has not dropped out
     pub standing: bool,
