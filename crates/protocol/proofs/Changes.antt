@@ -73,13 +73,8 @@ standing_new m (Notice i j) ok = grind arith
 standing_new m (Join i) ok = grind arith
 
 pub drops_other : (c : Call) (a : ℕ) → a ≢ actor c → drops_out a c ≡ false
-drops_other (Vote i v) a ne = refl
-drops_other (Speak i j) a ne = refl
-drops_other (Hear i j) a ne = refl
-drops_other (Close i) a ne = refl
 drops_other (DropOut i) a ne = ne_eqb i a (λ e. ne (sym e))
-drops_other (Notice i j) a ne = refl
-drops_other (Join i) a ne = refl
+drops_other _ a ne = refl
 
 pub closes_other : (c : Call) (a : ℕ) → a ≢ actor c → closes a c ≡ false
 closes_other (Vote i v) a ne = refl
