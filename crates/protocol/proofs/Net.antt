@@ -107,7 +107,7 @@ told-after s (drop i) = s.told
 told-after s (enter i w) = s.told
 
 abbrev pub does : Net → Deed → Net
-does s c = record { n = s.n; reach = s.reach; place = place_after s c; word = word_after s c; t = t_after s c; dropped = dropped-after s c; told = told-after s c }
+does s c = record s { place = place_after s c; word = word_after s c; t = t_after s c; dropped = dropped-after s c; told = told-after s c }
 
 -- a place holds nothing or the sender's word of that round
 abbrev pub Own : Net → ℕ → ℕ → ℕ → Type 0

@@ -46,7 +46,7 @@ told_map f i j lt = fun_ext (λ a. fun_ext (λ b. let h = member-added (f i) j b
 
 -- a record with another round
 abbrev pub at_round : Office → ℕ → Office
-at_round o r = record { standing = o.standing; terminating = o.terminating; voted = o.voted; round = r; knowledge = o.knowledge; told = o.told; word = o.word; prior = o.prior; decision = o.decision; deciding = o.deciding }
+at_round o r = record o { round = r }
 
 module _ (m : Model) (w : Words) (g : Good m w) where
   cover : Plan (votes m)
@@ -56,7 +56,7 @@ module _ (m : Model) (w : Words) (g : Good m w) where
   deed : (c : Deed) → May (net m w) c → All (does (net m w) c) (office m)
   deed c ok = (keeps_does (net m w) g.sound c ok, λ a la. rec_kept (net m w) c a (office m a) ok refl (g.rec a la))
 
-  fixed_on : (v : Mail Knowledge) (e : Mail TermWord) → v.reach ≡ m.voting.reach → e.reach ≡ m.termination.reach → Fixed (record { n = m.n; h = m.h; names = m.names; offices = m.offices; voting = v; termination = e })
+  fixed_on : (v : Mail Knowledge) (e : Mail TermWord) → v.reach ≡ m.voting.reach → e.reach ≡ m.termination.reach → Fixed (record m { voting = v; termination = e })
   fixed_on v e p q = record { two = g.fixed.two; few = g.fixed.few; rounds = g.fixed.rounds; short = g.fixed.short; voting_reach = rw p g.fixed.voting_reach; termination_reach = rw q g.fixed.termination_reach; proper = g.fixed.proper; covers = g.fixed.covers }
 
   -- the voting post changes, and nothing else
@@ -92,7 +92,7 @@ module _ (m : Model) (w : Words) (g : Good m w) where
         let f = (g.rec i li).from in
         let can : Can (votes m) (v.say i j) = (li, lj, vo, rw re f, rw (re, ← last_is li p) le, rw re nm, rw re va) in
         good_voting (filled_is m.voting i j (office m i).round (Waiting (office m i).knowledge)) refl
-        (subst (λ (k : ℕ). Fair (votes_of m.n m.h m.names (record { reach = m.voting.reach; places = at3 m.voting.places i j k (Waiting (office m i).knowledge) }) (office m))) re (fair_kept (votes m) g.fair cover (v.say i j) can))
+        (subst (λ (k : ℕ). Fair (votes_of m.n m.h m.names (record m.voting { places = at3 m.voting.places i j k (Waiting (office m i).knowledge) }) (office m))) re (fair_kept (votes m) g.fair cover (v.say i j) can))
 
     pub hear_voting : (j : ℕ) → (office m i).terminating ≡ false → verdict m (Hear i j) ≡ 0 → Good (with_voting m (filled m.voting j i (office m i).round (taken (m.voting.places j i (office m i).round)))) w
     hear_voting j p ok =
@@ -101,7 +101,7 @@ module _ (m : Model) (w : Words) (g : Good m w) where
         let f = (g.rec i li).from in
         let can : Can (votes m) (v.hear i j) = (li, lj, rw re f) in
         good_voting (filled_is m.voting j i (office m i).round (taken (m.voting.places j i (office m i).round))) refl
-        (subst (λ (k : ℕ). Fair (votes_of m.n m.h m.names (record { reach = m.voting.reach; places = at3 m.voting.places j i k (taken (m.voting.places j i k)) }) (office m))) re (fair_kept (votes m) g.fair cover (v.hear i j) can))
+        (subst (λ (k : ℕ). Fair (votes_of m.n m.h m.names (record m.voting { places = at3 m.voting.places j i k (taken (m.voting.places j i k)) }) (office m))) re (fair_kept (votes m) g.fair cover (v.hear i j) can))
 
     empty-place : {W : Type 0} (p : Place W) → vacant p ≡ true → p ≡ Empty
     empty-place p e = grind arith
@@ -115,8 +115,8 @@ module _ (m : Model) (w : Words) (g : Good m w) where
         let te = t_is p in
         let may : May (net m w) (speak i j) = ((li, lj, ne, stands i st), rw te r1, rw te rr, rw te (empty-place _ va)) in
         let d = deed (speak i j) may in
-        let d1 = subst (λ (k : ℕ). All (net_of m.n (record { reach = m.termination.reach; places = at3 m.termination.places i j k (Waiting (w i k)) }) w (office m)) (office m)) te d in
-        let d2 = subst (λ (x : TermWord). All (net_of m.n (record { reach = m.termination.reach; places = at3 m.termination.places i j (office m i).round (Waiting x) }) w (office m)) (office m)) (sym ((g.rec i li).word_now p)) d1 in
+        let d1 = subst (λ (k : ℕ). All (net_of m.n (record m.termination { places = at3 m.termination.places i j k (Waiting (w i k)) }) w (office m)) (office m)) te d in
+        let d2 = subst (λ (x : TermWord). All (net_of m.n (record m.termination { places = at3 m.termination.places i j (office m i).round (Waiting x) }) w (office m)) (office m)) (sym ((g.rec i li).word_now p)) d1 in
         good_termination (filled_is m.termination i j (office m i).round (Waiting (office m i).word)) d2 refl
 
     pub hear_ending : (j : ℕ) → (office m i).terminating ≡ true → verdict m (Hear i j) ≡ 0 → Good (with_termination m (filled m.termination j i (office m i).round (taken (m.termination.places j i (office m i).round)))) w
@@ -125,7 +125,7 @@ module _ (m : Model) (w : Words) (g : Good m w) where
         let te = t_is p in
         let f = (g.rec i li).from in
         let may : May (net m w) (hear i j) = ((li, lj, ne, stands i st), rw te f) in
-        let d = subst (λ (k : ℕ). All (net_of m.n (record { reach = m.termination.reach; places = at3 m.termination.places j i k (taken (m.termination.places j i k)) }) w (office m)) (office m)) te (deed (hear i j) may) in
+        let d = subst (λ (k : ℕ). All (net_of m.n (record m.termination { places = at3 m.termination.places j i k (taken (m.termination.places j i k)) }) w (office m)) (office m)) te (deed (hear i j) may) in
         good_termination (filled_is m.termination j i (office m i).round (taken (m.termination.places j i (office m i).round))) d refl
 
     -- the records after i's was changed, where all else stays true

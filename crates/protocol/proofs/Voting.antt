@@ -57,8 +57,8 @@ abbrev pub closed_known : Votes → ℕ → Knowledge
 closed_known u i = learns u.n i (u.knowledge i) (λ l. heard (u.place l i (u.r i)))
 
 abbrev pub known_after : Votes → Move → ℕ → Knowledge
-known_after u (yes i) = at1 u.knowledge i (record { yes = added (u.knowledge i).yes i; no = (u.knowledge i).no; ready = (u.knowledge i).ready })
-known_after u (no i) = at1 u.knowledge i (record { yes = (u.knowledge i).yes; no = added (u.knowledge i).no i; ready = (u.knowledge i).ready })
+known_after u (yes i) = at1 u.knowledge i (record (u.knowledge i) { yes = added (u.knowledge i).yes i })
+known_after u (no i) = at1 u.knowledge i (record (u.knowledge i) { no = added (u.knowledge i).no i })
 known_after u (say i j) = u.knowledge
 known_after u (hear i j) = u.knowledge
 known_after u (close i) = at1 u.knowledge i (closed_known u i)
@@ -89,7 +89,7 @@ place_after u (close i) = u.place
 place_after u (leave i) = u.place
 
 abbrev pub moved : Votes → Move → Votes
-moved u v = record { n = u.n; h = u.h; names = u.names; knowledge = known_after u v; voted = voted-after u v; r = round_after u v; place = place_after u v }
+moved u v = record u { knowledge = known_after u v; voted = voted-after u v; r = round_after u v; place = place_after u v }
 
 -- the word in a place
 abbrev pub content : Place Knowledge → Knowledge

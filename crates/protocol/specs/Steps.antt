@@ -21,7 +21,7 @@ taken (Taken w) = Taken w
 
 -- a post with x in one place, and else as before
 unfoldable pub filled : {W : Type 0} → Mail W → ℕ → ℕ → ℕ → Place W → Mail W
-filled p s r k x = record { reach = p.reach; places = put p.places s r k x }
+filled p s r k x = record p { places = put p.places s r k x }
 
 -- what office i has heard in round k
 abbrev pub heard_in : {W : Type 0} → Mail W → ℕ → ℕ → Heard W
@@ -36,15 +36,15 @@ closed m i = let o = office m i in
 
 -- a release with office i's record changed, and no other
 abbrev pub with_office : Model → ℕ → Office → Model
-with_office m i o = record { n = m.n; h = m.h; names = m.names; offices = slice_set m.offices i o; voting = m.voting; termination = m.termination }
+with_office m i o = record m { offices = slice_set m.offices i o }
 
 -- a release with its voting post changed
 abbrev pub with_voting : Model → Mail Knowledge → Model
-with_voting m p = record { n = m.n; h = m.h; names = m.names; offices = m.offices; voting = p; termination = m.termination }
+with_voting m p = record m { voting = p }
 
 -- a release with its termination post changed
 abbrev pub with_termination : Model → Mail TermWord → Model
-with_termination m p = record { n = m.n; h = m.h; names = m.names; offices = m.offices; voting = m.voting; termination = p }
+with_termination m p = record m { termination = p }
 
 -- what an accepted call leaves
 abbrev pub after : Model → Call → Model
