@@ -1,5 +1,5 @@
 -- What one call does to the records. Assumes nothing.
-use Rattle.std.proofs.Common.{◌≡◌, ℕ, suc, ◌+◌, ◌-◌, ◌<◌, Bool, true, false, cond, not, ◌&&◌, ◌||◌, eqb, ◌≢◌, ◌⊎◌, None, Option, sym, refl, ap, ◌∙◌, inl, inr, arith}
+use Rattle.std.proofs.Common.{◌≡◌, ℕ, suc, ◌+◌, ◌-◌, ◌<◌, Bool, true, false, cond, not, ◌&&◌, ◌||◌, eqb, ◌≢◌, ◌⊎◌, Some, None, Option, sym, refl, ap, ◌∙◌, inl, inr, arith}
 use Rattle.std.proofs.lemmas.Bool.Decides.{nat_tests}
 use Rattle.std.proofs.lemmas.Bool.{cases_eq, cond-true, cond-false, cond_both, eqb-false, eq-eqb, ne_eqb, and_from, or_cases}
 use Rattle.words.specs.declared.knowledge.Decision.{Decision}
@@ -98,10 +98,10 @@ pick : (b : Bool) (o p : Office) (x y d : Option Decision) → o.decision ≡ la
 pick true o p x y d e f = e
 pick false o p x y d e f = f
 
-pick_round : (b : Bool) (o p : Office) (x y : Option Decision) (r old : ℕ) → o.deciding ≡ cond (undecided x) old r → p.deciding ≡ old → (cond b o p).deciding ≡ cond (b && not (undecided (cond b x y))) r old
+pick_round : (b : Bool) (o p : Office) (x y : Option Decision) (r old : Option ℕ) → o.deciding ≡ cond (undecided x) old r → p.deciding ≡ old → (cond b o p).deciding ≡ cond (b && not (undecided (cond b x y))) r old
 pick_round true o p x y r old e f = e ∙ turn (undecided x) r old
   where
-    turn : (b : Bool) (r old : ℕ) → cond b old r ≡ cond (not b) r old
+    turn : (b : Bool) (r old : Option ℕ) → cond b old r ≡ cond (not b) r old
     turn b r old = grind arith
 pick_round false o p x y r old e f = f
 
@@ -120,14 +120,14 @@ decision_new m (DropOut i) ok = refl
 decision_new m (Notice i j) ok = cond_both (office m i).terminating _ _ (λ (o : Office). o.decision ≡ (office m i).decision) (λ _. refl) (λ _. refl)
 decision_new m (Join i) ok = refl
 
-pub deciding_new : (m : Model) (c : Call) → (record_after m c).deciding ≡ cond (ends_round m (actor c) c && not (undecided (closing_gives m (actor c)))) (office m (actor c)).round (office m (actor c)).deciding
+pub deciding_new : (m : Model) (c : Call) → (record_after m c).deciding ≡ cond (ends_round m (actor c) c && not (undecided (closing_gives m (actor c)))) (Some (office m (actor c)).round) (office m (actor c)).deciding
 deciding_new m (Vote i v) = cond_both (eqb v 1) _ _ (λ (o : Office). o.deciding ≡ (office m i).deciding) (λ _. refl) (λ _. refl)
 deciding_new m (Speak i j) = refl
 deciding_new m (Hear i j) = refl
 deciding_new m (Close i) = closed_new (eqb i i) (eq-eqb i i refl)
   where
-    closed_new : (b : Bool) → b ≡ true → (closed m i).deciding ≡ cond ((b && (office m i).terminating) && not (undecided (closing_gives m i))) (office m i).round (office m i).deciding
-    closed_new b e = rw e (pick_round (office m i).terminating _ _ _ _ (office m i).round (office m i).deciding refl refl)
+    closed_new : (b : Bool) → b ≡ true → (closed m i).deciding ≡ cond ((b && (office m i).terminating) && not (undecided (closing_gives m i))) (Some (office m i).round) (office m i).deciding
+    closed_new b e = rw e (pick_round (office m i).terminating _ _ _ _ (Some (office m i).round) (office m i).deciding refl refl)
 deciding_new m (DropOut i) = refl
 deciding_new m (Notice i j) = cond_both (office m i).terminating _ _ (λ (o : Office). o.deciding ≡ (office m i).deciding) (λ _. refl) (λ _. refl)
 deciding_new m (Join i) = refl

@@ -1,5 +1,5 @@
 -- What the records show is what the accepted calls of the list say. Assumes nothing.
-use Rattle.std.proofs.Common.{◌≡◌, ℕ, suc, ◌+◌, ◌<◌, Bool, true, false, cond, not, ◌&&◌, ◌||◌, eqb, ◌≢◌, ◌⊎◌, List, [], ◌∷◌, ◌++◌, None, Option, sym, refl, ap, ◌∙◌, ap₂, inl, inr, arith}
+use Rattle.std.proofs.Common.{◌≡◌, ℕ, suc, ◌+◌, ◌<◌, Bool, true, false, cond, not, ◌&&◌, ◌||◌, eqb, ◌≢◌, ◌⊎◌, List, [], ◌∷◌, ◌++◌, Some, None, Option, sym, refl, ap, ◌∙◌, ap₂, inl, inr, arith}
 use Rattle.std.proofs.lemmas.Bool.{cases_Bool, cond-true, cond-false, cond_both, eqb-true, eq-eqb, or_cases}
 use Rattle.words.specs.declared.knowledge.Decision.{Decision}
 use Rattle.words.specs.declared.term.TermWord.{TermWord}
@@ -261,7 +261,7 @@ module _ (m : Model) (w : ℕ → ℕ → TermWord) (g : Good m w) (i : ℕ) whe
 
   closing-stays : i < m.n → (office m i).terminating ≡ false → (office m i).decision ≢ None → latest (decision_of (class m.n (after-closing m w g i))) (office m i).decision ≡ (office m i).decision
   closing-stays li p nd =
-      let de = ((g.rec i li).in_voting p).0 in
+      let de = (g.rec i li).in_voting p in
       both_stay (office m i).decision (decision_of (class m.n (after-closing m w g i))) nd
       (λ a c. abort_commit (no-class m w g i (after-closing m w g i) (λ z. class_abort m.n _ (sym de ∙ a) (none_before (view.votes m) i (ap (λ k. k.no.mask) (sym (after_is m w g i p)) ∙ z)))) c)
       (λ c a.
@@ -278,7 +278,7 @@ unfolding after-closing
 kept_new m w g (Vote i v) ok nd =
     let (li, _, _, p, vo) = asked.vote_asked m i v ok in
     let (k, _) = g.fair.blank i vo in
-    absurd (nd (((g.rec i li).in_voting p).0 ∙ yes-class m w g i (office m i).knowledge (ap (λ k. k.no.mask) k) (ap (λ k. k.ready.mask) k)))
+    absurd (nd ((g.rec i li).in_voting p ∙ yes-class m w g i (office m i).knowledge (ap (λ k. k.no.mask) k) (ap (λ k. k.ready.mask) k)))
 kept_new m w g (Speak i j) ok nd = refl
 kept_new m w g (Hear i j) ok nd = refl
 kept_new m w g (Close i) ok nd = cond_both (office m i).terminating _ _ (λ (o : Office). o.decision ≡ (office m i).decision)
@@ -327,7 +327,7 @@ deciding_on m f (c ∷ h) a p nd =
 
 -- i decides by the closing
 decides : (m : Model) → Fine m → (i : ℕ) → verdict m (Close i) ≡ 0 → (office m i).terminating ≡ true → closing_gives m i ≢ None →
-    ((office (step m (Close i)) i).terminating ≡ true) × ((office (step m (Close i)) i).decision ≢ None) × ((office (step m (Close i)) i).deciding ≡ (office m i).round)
+    ((office (step m (Close i)) i).terminating ≡ true) × ((office (step m (Close i)) i).decision ≢ None) × ((office (step m (Close i)) i).deciding ≡ Some (office m i).round)
 decides m f i ok p nd =
     let e = step_decision m f (Close i) i in (
       (step_ending m f (Close i) i p).0,
@@ -338,24 +338,24 @@ decides m f i ok p nd =
     not_open : (a b : Bool) (d e : Option Decision) → a ≡ true → b ≡ true → d ≢ None → latest (cond a (cond b d None) None) e ≡ None → ⊥
     not_open a b d e x y z q = grind arith
 
-    now_round : (a b : Bool) (d : Option Decision) (r old : ℕ) → a ≡ true → b ≡ true → d ≢ None → cond ((a && b) && not (undecided d)) r old ≡ r
+    now_round : (a b : Bool) (d : Option Decision) (r old : Option ℕ) → a ≡ true → b ≡ true → d ≢ None → cond ((a && b) && not (undecided d)) r old ≡ r
     now_round a b d r old x y z = grind arith
 
     clash : {b : Bool} → b ≡ false → b ≡ true → ⊥
     clash x y = grind arith
 
-    go : Stepped m (Close i) i → (office (step m (Close i)) i).deciding ≡ (office m i).round
+    go : Stepped m (Close i) i → (office (step m (Close i)) i).deciding ≡ Some (office m i).round
     go (refused e x) = absurd (clash e (eq-eqb _ _ ok))
-    go (acted e _ _ x) = ap (λ (o : Office). o.deciding) x ∙ deciding_new m (Close i) ∙ now_round (eqb i i) (office m i).terminating (closing_gives m i) (office m i).round (office m i).deciding (eq-eqb i i refl) p nd
+    go (acted e _ _ x) = ap (λ (o : Office). o.deciding) x ∙ deciding_new m (Close i) ∙ now_round (eqb i i) (office m i).terminating (closing_gives m i) (Some (office m i).round) (office m i).deciding (eq-eqb i i refl) p nd
     go (other e q x) = absurd (q refl)
 
-pub round_shown : (m : Model) → Fine m → (past later : List Call) (i : ℕ) → (office m i).terminating ≡ false → DecidesInTermination m past i → (office (run m (past ++ (Close i ∷ later))) i).deciding ≡ suc (closings m past i)
+pub round_shown : (m : Model) → Fine m → (past later : List Call) (i : ℕ) → (office m i).terminating ≡ false → DecidesInTermination m past i → (office (run m (past ++ (Close i ∷ later))) i).deciding ≡ Some (suc (closings m past i))
 unfolding run
 round_shown m f past later i p d =
     let s = run m past in
     let fs = fine_run m f past in
     let (pe, nd, r) = decides s fs i d.closing (in_termination m f past i p ∙ d.in_termination) d.ruled in
-    ap (λ (x : Model). (office x i).deciding) (run_append m past (Close i ∷ later)) ∙ deciding_on (step s (Close i)) (fine_step s fs (Close i)) later i pe nd ∙ r ∙ rounds_shown m f past i p (in_termination m f past i p ∙ d.in_termination)
+    ap (λ (x : Model). (office x i).deciding) (run_append m past (Close i ∷ later)) ∙ deciding_on (step s (Close i)) (fine_step s fs (Close i)) later i pe nd ∙ r ∙ ap Some (rounds_shown m f past i p (in_termination m f past i p ∙ d.in_termination))
 
 closes_is : (c : Call) → closes (actor c) c ≡ true → c ≡ Close (actor c)
 closes_is (Vote i v) e = absurd (grind arith)
@@ -366,21 +366,21 @@ closes_is (DropOut i) e = absurd (grind arith)
 closes_is (Notice i j) e = absurd (grind arith)
 closes_is (Join i) e = absurd (grind arith)
 
-step_zero : (m : Model) → Fine m → (c : Call) (a : ℕ) → (office m a).deciding ≡ 0 → (c ≡ Close a → verdict m (Close a) ≡ 0 → (office m a).terminating ≡ true → closing_gives m a ≢ None → ⊥) → (office (step m c) a).deciding ≡ 0
-step_zero m f c a z none = go (stepped m f c a)
+step_none : (m : Model) → Fine m → (c : Call) (a : ℕ) → (office m a).deciding ≡ None → (c ≡ Close a → verdict m (Close a) ≡ 0 → (office m a).terminating ≡ true → closing_gives m a ≢ None → ⊥) → (office (step m c) a).deciding ≡ None
+step_none m f c a z none = go (stepped m f c a)
   where
-    three : (a b : Bool) (d : Option Decision) (r old : ℕ) → old ≡ 0 → (a ≡ true → b ≡ true → d ≢ None → ⊥) → cond ((a && b) && not (undecided d)) r old ≡ 0
+    three : (a b : Bool) (d : Option Decision) (r old : Option ℕ) → old ≡ None → (a ≡ true → b ≡ true → d ≢ None → ⊥) → cond ((a && b) && not (undecided d)) r old ≡ None
     three a b d r old e n = grind arith
 
-    go : Stepped m c a → (office (step m c) a).deciding ≡ 0
+    go : Stepped m c a → (office (step m c) a).deciding ≡ None
     go (refused e x) = ap (λ (o : Office). o.deciding) x ∙ z
-    go (acted e ok p x) = ap (λ (o : Office). o.deciding) x ∙ deciding_new m c ∙ three (closes (actor c) c) (office m (actor c)).terminating (closing_gives m (actor c)) (office m (actor c)).round (office m (actor c)).deciding (ap (λ (i : ℕ). (office m i).deciding) (sym p) ∙ z)
+    go (acted e ok p x) = ap (λ (o : Office). o.deciding) x ∙ deciding_new m c ∙ three (closes (actor c) c) (office m (actor c)).terminating (closing_gives m (actor c)) (Some (office m (actor c)).round) (office m (actor c)).deciding (ap (λ (i : ℕ). (office m i).deciding) (sym p) ∙ z)
         (λ cl pe nd. let q : c ≡ Close a = closes_is c cl ∙ ap Close (sym p) in none q (ap (verdict m) (sym q) ∙ ok) (ap (λ (i : ℕ). (office m i).terminating) p ∙ pe) (λ y. nd (ap (closing_gives m) (sym p) ∙ y)))
     go (other e p x) = ap (λ (o : Office). o.deciding) x ∙ z
 
-pub round_none : (m : Model) → Fine m → (h : List Call) (a : ℕ) → (office m a).deciding ≡ 0 →
-    ((past later : List Call) → h ≡ past ++ (Close a ∷ later) → verdict (run m past) (Close a) ≡ 0 → (office (run m past) a).terminating ≡ true → closing_gives (run m past) a ≢ None → ⊥) → (office (run m h) a).deciding ≡ 0
+pub round_none : (m : Model) → Fine m → (h : List Call) (a : ℕ) → (office m a).deciding ≡ None →
+    ((past later : List Call) → h ≡ past ++ (Close a ∷ later) → verdict (run m past) (Close a) ≡ 0 → (office (run m past) a).terminating ≡ true → closing_gives (run m past) a ≢ None → ⊥) → (office (run m h) a).deciding ≡ None
 unfolding run
 round_none m f [] a z never = z
 round_none m f (c ∷ h) a z never =
-    round_none (step m c) (fine_step m f c) h a (step_zero m f c a z (λ q. never [] h (ap (λ x. x ∷ h) q))) (λ past later e. never (c ∷ past) later (ap (λ l. c ∷ l) e))
+    round_none (step m c) (fine_step m f c) h a (step_none m f c a z (λ q. never [] h (ap (λ x. x ∷ h) q))) (λ past later e. never (c ∷ past) later (ap (λ l. c ∷ l) e))

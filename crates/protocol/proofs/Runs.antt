@@ -150,7 +150,7 @@ module _ (m : Model) (o : Opening m) where
       first = λ e. absurd (false_true (in_voting a) e);
       from = let few = o.few in let q : office m a ≡ fresh = ap (λ l. get_or l a nobody) o.all_fresh ∙ get_or-replicate 16 a fresh nobody (omega arith) in rw q (omega arith);
       untold = λ _ j. no-told a j;
-      in_voting = λ _. (like (λ o. o.decision) None refl refl a ∙ sym no-ruling ∙ ap (λ k. decision_of (class m.n k)) (sym (like (λ o. o.knowledge) knows_nothing refl refl a)), like (λ o. o.deciding) 0 refl refl a);
+      in_voting = λ _. like (λ o. o.decision) None refl refl a ∙ sym no-ruling ∙ ap (λ k. decision_of (class m.n k)) (sym (like (λ o. o.knowledge) knows_nothing refl refl a));
       still_open = λ e. absurd (false_true (in_voting a) e);
       shut = λ e. absurd (false_true (in_voting a) e);
     };

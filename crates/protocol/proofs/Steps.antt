@@ -19,7 +19,7 @@ use Rattle.protocol.specs.Asked.{waiting_from, verdict}
 use Rattle.protocol.specs.Hearing.{heard, spoke}
 use Rattle.protocol.specs.Letters.{N, to_abort, to_commit}
 use Rattle.protocol.specs.Model.{Mail, Model, office, voting_rounds}
-use Rattle.protocol.specs.Records.{undecided, latest, next_round, voted_yes, voted_no, dropped_out, told_of, entered, closed_voting, closed_termination}
+use Rattle.protocol.specs.Records.{latest, next_round, voted_yes, voted_no, dropped_out, told_of, entered, closed_voting, closed_termination}
 use Rattle.protocol.specs.Rules.{learns, class, first_word, ruling, next_word}
 use Rattle.protocol.specs.Steps.{taken, filled, heard_in, with_office, with_voting, with_termination}
 use Rattle.protocol.proofs.Updates.{at1, at2, at3, at1_is, at2_is, filled_is}
@@ -83,7 +83,7 @@ module _ (m : Model) (w : Words) (g : Good m w) where
     -- the last round, by what i knows
     pub last_is : i < m.n → (office m i).terminating ≡ false → voting_rounds m.h (office m i).decision ≡ v.last (votes m) i
     unfolding class
-    last_is li p = let e = ((g.rec i li).in_voting p).0 in rw e (grind arith)
+    last_is li p = let e = (g.rec i li).in_voting p in rw e (grind arith)
 
     pub speak_voting : (j : ℕ) → (office m i).terminating ≡ false → verdict m (Speak i j) ≡ 0 → Good (with_voting m (filled m.voting i j (office m i).round (Waiting (office m i).knowledge))) w
     speak_voting j p ok =
@@ -171,7 +171,7 @@ module _ (m : Model) (w : Words) (g : Good m w) where
         let o = office m i in
         let (kn, _) = g.fair.blank i vo in
         let r = g.rec i li in
-        let (de, z) = r.in_voting p in
+        let de = r.in_voting p in
         let from = r.from in
         let rec' : Rec (net m w) i (voted_yes o i) = record {
           word_now = λ e. absurd (both e p);
@@ -179,7 +179,7 @@ module _ (m : Model) (w : Words) (g : Good m w) where
           first = λ e. absurd (both e p);
           from = r.from;
           untold = r.untold;
-          in_voting = λ _. (de ∙ yes-class o.knowledge (ap (λ k. k.no.mask) kn) (ap (λ k. k.ready.mask) kn) ∙ sym (yes-class _ (ap (λ k. k.no.mask) kn) (ap (λ k. k.ready.mask) kn)), z);
+          in_voting = λ _. de ∙ yes-class o.knowledge (ap (λ k. k.no.mask) kn) (ap (λ k. k.ready.mask) kn) ∙ sym (yes-class _ (ap (λ k. k.no.mask) kn) (ap (λ k. k.ready.mask) kn));
           still_open = λ e. absurd (both e p);
           shut = λ e. absurd (both e p);
         } in
@@ -195,7 +195,7 @@ module _ (m : Model) (w : Words) (g : Good m w) where
     vote_no li p vo =
         let o = office m i in
         let r = g.rec i li in
-        let (de, z) = r.in_voting p in
+        let de = r.in_voting p in
         let from = r.from in
         let rec' : Rec (net m w) i (voted_no o i) = record {
           word_now = λ e. absurd (both e p);
@@ -203,7 +203,7 @@ module _ (m : Model) (w : Words) (g : Good m w) where
           first = λ e. absurd (both e p);
           from = r.from;
           untold = r.untold;
-          in_voting = λ _. (sym (no-class _ (with_some li o.knowledge.no)), z);
+          in_voting = λ _. sym (no-class _ (with_some li o.knowledge.no));
           still_open = λ e. absurd (both e p);
           shut = λ e. absurd (both e p);
         } in
@@ -244,7 +244,7 @@ module _ (m : Model) (w : Words) (g : Good m w) where
         let (li, st, e1, e2) = asked.close_asked m i ok in
         let (vo, le) = asked.close_voting m i p ok in
         let r = g.rec i li in
-        let (de, z) = r.in_voting p in
+        let de = r.in_voting p in
         let from = r.from in
         let re = r_is p in
         let can : Can (votes m) (v.close i) = (
@@ -262,7 +262,7 @@ module _ (m : Model) (w : Words) (g : Good m w) where
           first = λ e. absurd (both e p);
           from = omega arith;
           untold = r.untold;
-          in_voting = λ _. (latest-same _ _ (λ u. de ∙ closing_keeps p u), z);
+          in_voting = λ _. latest-same _ _ (λ u. de ∙ closing_keeps p u);
           still_open = λ e. absurd (both e p);
           shut = λ e. absurd (both e p);
         } in
@@ -312,16 +312,16 @@ module _ (m : Model) (w : Words) (g : Good m w) where
     enter_word = first_word (class m.n (office m i).knowledge)
 
     -- i enters, in a termination s in which it is still in voting, with whatever it was told
-    enter_rec : (s : Net) (o : Office) → s.n ≡ m.n → s.word i 0 ≡ N → (o.decision ≡ decision_of (class s.n o.knowledge)) × (o.deciding ≡ 0) → (x : TermWord) → x ≡ first_word (class m.n o.knowledge) → May s (enter i x) → Rec (does s (enter i x)) i (entered m.n o)
-    enter_rec s o n z (de, dz) x xe may = record {
+    enter_rec : (s : Net) (o : Office) → s.n ≡ m.n → s.word i 0 ≡ N → o.decision ≡ decision_of (class s.n o.knowledge) → (x : TermWord) → x ≡ first_word (class m.n o.knowledge) → May s (enter i x) → Rec (does s (enter i x)) i (entered m.n o)
+    enter_rec s o n z de x xe may = record {
       word_now = λ _. sym xe ∙ sym at_one;
       prior_now = λ _. sym (sym (word_kept s (enter i x) i 0 may (omega arith)) ∙ z);
       first = λ _. at_one ∙ xe ∙ ap (λ n. first_word (class n o.knowledge)) (sym n);
       from = omega arith;
       untold = λ e. absurd (false_true e);
       in_voting = λ e. absurd (false_true e);
-      still_open = λ _ u. (sym de ∙ u, dz, omega arith, λ k k1 lt. absurd (omega arith));
-      shut = λ _ u. inl (dz, refl, de);
+      still_open = λ _ u. (omega arith, λ k k1 lt. absurd (omega arith));
+      shut = λ _ u. inl (refl, de);
     }
       where
         at_one : (does s (enter i x)).word i 1 ≡ x
@@ -418,7 +418,7 @@ module _ (m : Model) (w : Words) (g : Good m w) where
         let te = t_is p in
         let from = r.from in
         let back : o.round ≡ suc o.round - 1 = omega arith in
-        let (ru, dz, lim, fs) = r.still_open p (asked.close_ending m i p ok) in
+        let (lim, fs) = r.still_open p (asked.close_ending m i p ok) in
         let f : Option Decision = ruling m.n o.round o.word (heard_in m.termination i o.round) o.prior (heard_in m.termination i (o.round - 1)) in
         let now-fate : fate_at (does s (close i)) i o.round ≡ f = sym (fate_kept s (close i) i o.round may (omega arith) (inr refl) (inr refl)) ∙ ap (fate_at s i) (sym te) ∙ fate_is li p in
         let old : (k : ℕ) → 1 ≤ k → k < o.round → fate_at (does s (close i)) i k ≡ None = λ k k1 lt. sym (fate_kept s (close i) i k may (omega arith) (inr refl) (inr refl)) ∙ fs k k1 lt in
@@ -433,11 +433,10 @@ module _ (m : Model) (w : Words) (g : Good m w) where
               let fu : f ≡ None = later_open f o.decision u in
               let (n1, n2, n3) = no_rule _ _ _ (fate_is li p ∙ fu) in
               let bd = bounded s g.sound i (may_close s i may) n1 n2 n3 in
-              (ru, ap (λ d. cond (undecided d) o.deciding o.round) fu ∙ dz, omega arith, λ k k1 lt. elim (cases_eq k o.round) [ inl q ↦ ap (fate_at (does s (close i)) i) q ∙ now-fate ∙ fu | inr ne ↦ old k k1 (omega arith) ]);
+              (omega arith, λ k k1 lt. elim (cases_eq k o.round) [ inl q ↦ ap (fate_at (does s (close i)) i) q ∙ now-fate ∙ fu | inr ne ↦ old k k1 (omega arith) ]);
           shut = λ _ u.
               let fu : f ≢ None = λ q. u (ap (λ d. latest d o.decision) q ∙ asked.close_ending m i p ok) in
-              let de : after_ending.deciding ≡ o.round = decided_at f o.deciding o.round fu in
-              inr (rw de from, ap suc (sym de), decided f o.decision fu ∙ sym now-fate ∙ ap (fate_at (does s (close i)) i) (sym de), ru, λ k k1 lt. old k k1 (rw de at lt));
+              inr (o.round, from, refl, decided f o.decision fu ∙ sym now-fate);
         }
       where
         both : (office m i).terminating ≡ true → (office m i).terminating ≡ false → ⊥
@@ -445,9 +444,6 @@ module _ (m : Model) (w : Words) (g : Good m w) where
 
         later_open : (d e : Option Decision) → latest d e ≡ None → d ≡ None
         later_open d e q = grind arith
-
-        decided_at : (d : Option Decision) (x y : ℕ) → d ≢ None → cond (undecided d) x y ≡ y
-        decided_at d x y q = grind arith
 
         decided : (d e : Option Decision) → d ≢ None → latest d e ≡ d
         decided d e q = grind arith
@@ -484,7 +480,7 @@ module _ (m : Model) (w : Words) (g : Good m w) where
     pub up_ending : (office m i).terminating ≡ true → verdict m (Close i) ≡ 0 → next_round (office m i).round ≡ suc (office m i).round
     up_ending p ok =
         let li = (asked.close_asked m i ok).0 in
-        let (_, _, lim, _) = (g.rec i li).still_open p (asked.close_ending m i p ok) in
+        let (lim, _) = (g.rec i li).still_open p (asked.close_ending m i p ok) in
         let c = count_all m.n (net m w).dropped in
         let few = g.fixed.few in
         up_is (office m i).round (omega arith)

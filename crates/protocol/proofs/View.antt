@@ -43,11 +43,11 @@ pub record Rec (s : Net) (i : ℕ) (o : Office) : Type 0 where
   pub first : o.terminating ≡ true → s.word i 1 ≡ first_word (class s.n o.knowledge)
   pub from : 1 ≤ o.round
   pub untold : o.terminating ≡ false → (j : ℕ) → member o.told j ≡ false
-  pub in_voting : o.terminating ≡ false → (o.decision ≡ decision_of (class s.n o.knowledge)) × (o.deciding ≡ 0)
-  pub still_open : o.terminating ≡ true → o.decision ≡ None → (decision_of (class s.n o.knowledge) ≡ None) × (o.deciding ≡ 0) × (o.round ≤ suc (count s.n s.dropped)) × ((k : ℕ) → 1 ≤ k → k < o.round → fate_at s i k ≡ None)
+  pub in_voting : o.terminating ≡ false → o.decision ≡ decision_of (class s.n o.knowledge)
+  pub still_open : o.terminating ≡ true → o.decision ≡ None → (o.round ≤ suc (count s.n s.dropped)) × ((k : ℕ) → 1 ≤ k → k < o.round → fate_at s i k ≡ None)
   pub shut : o.terminating ≡ true → o.decision ≢ None →
-      ((o.deciding ≡ 0) × (o.round ≡ 1) × (o.decision ≡ decision_of (class s.n o.knowledge)))
-      ⊎ ((1 ≤ o.deciding) × (o.round ≡ suc o.deciding) × (o.decision ≡ fate_at s i o.deciding) × (decision_of (class s.n o.knowledge) ≡ None) × ((k : ℕ) → 1 ≤ k → k < o.deciding → fate_at s i k ≡ None))
+      ((o.round ≡ 1) × (o.decision ≡ decision_of (class s.n o.knowledge)))
+      ⊎ ((k : ℕ) × (1 ≤ k) × (o.round ≡ suc k) × (o.decision ≡ fate_at s i k))
 
 -- what no call changes
 pub record Fixed (m : Model) : Type 0 where
@@ -76,10 +76,10 @@ rec_kept s c a o ok te r = record {
   from = r.from;
   untold = r.untold;
   in_voting = r.in_voting;
-  still_open = λ e u. let (x, y, z, f) = r.still_open e u in let d = dropped_kept s c ok in (x, y, omega arith, λ k k1 lt. sym (stays k (low e k lt)) ∙ f k k1 lt);
+  still_open = λ e u. let (z, f) = r.still_open e u in let d = dropped_kept s c ok in (omega arith, λ k k1 lt. sym (stays k (low e k lt)) ∙ f k k1 lt);
   shut = λ e u. elim (r.shut e u) [
     | inl x ↦ inl x
-    | inr (a1, b, d, z, f) ↦ inr (a1, b, d ∙ stays o.deciding (low e o.deciding (omega arith)), z, λ k k1 lt. sym (stays k (low e k (omega arith))) ∙ f k k1 lt)
+    | inr (k, k1, b, d) ↦ inr (k, k1, b, d ∙ stays k (low e k (omega arith)))
   ];
 }
   where

@@ -75,7 +75,7 @@ module _ (m : Model) (o : Opening m) where
         let (w, g) = fine in
         let li = (asked.close_asked (run m h) i d.closing).0 in
         let p = phase i ∙ d.in_termination in
-        let (_, _, lim, _) = (g.rec i li).still_open p (asked.close_ending (run m h) i p d.closing) in
+        let (lim, _) = (g.rec i li).still_open p (asked.close_ending (run m h) i p d.closing) in
         let r = history.rounds_shown m open_fine h i (runs.in_voting m o i) p in
         let e = same-n in
         let c = count_le m.n (net (run m h) w).dropped (dropped m h) (λ l ll x. not_not (office (run m h) l).standing (dropped m h l) (stood l ll) x) in
@@ -103,7 +103,7 @@ module _ (m : Model) (o : Opening m) where
     phase_shown = λ i li. phase h i;
     decision_shown = λ i li. shown h i;
     round_shown = λ i past later e d. ap (λ (l : List Call). (office (run m l) i).deciding) e ∙ history.round_shown m open_fine past later i (runs.in_voting m o i) d;
-    round_none = λ i li none. history.round_none m open_fine h i (runs.like m o (λ o. o.deciding) 0 refl refl i) (λ past later e ok p nd. none past later e (record { closing = ok; in_termination = sym (phase past i) ∙ p; ruled = nd }));
+    round_none = λ i li none. history.round_none m open_fine h i (runs.like m o (λ o. o.deciding) None refl refl i) (λ past later e ok p nd. none past later e (record { closing = ok; in_termination = sym (phase past i) ∙ p; ruled = nd }));
   }
 
 pub kept : Kept

@@ -27,7 +27,7 @@ pub record Model : Type 0 where
 
 -- the record that stands for an office that is not in the table
 abbrev pub nobody : Office
-nobody = record { standing = false; terminating = false; voted = false; round = 0; knowledge = knows_nothing; told = none; word = N; prior = N; decision = None; deciding = 0 }
+nobody = record { standing = false; terminating = false; voted = false; round = 0; knowledge = knows_nothing; told = none; word = N; prior = N; decision = None; deciding = None }
 
 -- the record of office i
 abbrev pub office : Model → ℕ → Office

@@ -1,5 +1,5 @@
 -- What a release promises over every list of calls. Assumes nothing.
-use Rattle.std.specs.Prelude.{◌≡◌, ℕ, suc, ◌+◌, ◌<◌, ◌≤◌, true, false, not, ◌≢◌, ◌⊎◌, List, [], ◌∷◌, ◌++◌, None}
+use Rattle.std.specs.Prelude.{◌≡◌, ℕ, suc, ◌+◌, ◌<◌, ◌≤◌, true, false, not, ◌≢◌, ◌⊎◌, List, [], ◌∷◌, ◌++◌, Some, None}
 use Rattle.protocol.specs.declared.call.Call.{Call}
 use Rattle.protocol.specs.declared.call.Call.TheVariants.{Close}
 use Rattle.protocol.specs.Asked.{verdict}
@@ -30,9 +30,9 @@ pub record Promise (m : Model) (h : List Call) (s : Model) : Type 0 where
   -- the records show who holds what
   pub decision_shown : (i : ℕ) → i < m.n → (office s i).decision ≡ holds m h i
   -- where an office decided in the termination, its record shows the round: the number of its closings there, that one included
-  pub round_shown : (i : ℕ) (past later : List Call) → h ≡ past ++ (Close i ∷ later) → DecidesInTermination m past i → (office s i).deciding ≡ suc (closings m past i)
-  -- where it did not, its record shows 0
-  pub round_none : (i : ℕ) → i < m.n → ((past later : List Call) → h ≡ past ++ (Close i ∷ later) → DecidesInTermination m past i → ⊥) → (office s i).deciding ≡ 0
+  pub round_shown : (i : ℕ) (past later : List Call) → h ≡ past ++ (Close i ∷ later) → DecidesInTermination m past i → (office s i).deciding ≡ Some (suc (closings m past i))
+  -- where it did not, its record shows none
+  pub round_none : (i : ℕ) → i < m.n → ((past later : List Call) → h ≡ past ++ (Close i ∷ later) → DecidesInTermination m past i → ⊥) → (office s i).deciding ≡ None
 
 -- of every opening and every list of calls
 abbrev pub Kept : Type 0

@@ -13,7 +13,7 @@ use Rattle.protocol.specs.Rules.{learns, class, first_word, ruling, next_word}
 
 -- the record of an office at the opening: standing, in voting, in round 1, unvoted, undecided, with empty knowledge
 abbrev pub fresh : Office
-fresh = record { standing = true; terminating = false; voted = false; round = 1; knowledge = knows_nothing; told = none; word = N; prior = N; decision = None; deciding = 0 }
+fresh = record { standing = true; terminating = false; voted = false; round = 1; knowledge = knows_nothing; told = none; word = N; prior = N; decision = None; deciding = None }
 
 -- whether no decision was taken
 abbrev pub undecided : Option Decision → Bool
@@ -59,4 +59,4 @@ closed_voting n i o q =
 abbrev pub closed_termination : ℕ → Office → Heard TermWord → Heard TermWord → Office
 closed_termination n o q q' =
     let d = ruling n o.round o.word q o.prior q' in
-    record o { round = next_round o.round; word = next_word n o.round o.word q o.prior q'; prior = o.word; decision = latest d o.decision; deciding = cond (undecided d) o.deciding o.round }
+    record o { round = next_round o.round; word = next_word n o.round o.word q o.prior q'; prior = o.word; decision = latest d o.decision; deciding = cond (undecided d) o.deciding (Some o.round) }

@@ -22,6 +22,6 @@ pub struct Office {
     pub prior: TermWord,
     // what it decided, if anything
     pub decision: Option<Decision>,
-    // the termination round in which it decided, or 0
-    pub deciding: u8,
+    // the termination round in which it decided, if it decided in the termination
+    pub deciding: Option<u8>,
 }
