@@ -10,7 +10,7 @@ use Rattle.protocol.specs.declared.call.Call.TheVariants.{Vote, Speak, Hear, Clo
 use Rattle.protocol.specs.declared.office.Office.{Office}
 use Rattle.protocol.specs.Asked.{verdict}
 use Rattle.protocol.specs.Model.{Model, office}
-use Rattle.protocol.specs.Records.{undecided, latest, next_round, voted_yes, voted_no, dropped_out, told_of, entered, closed_voting, closed_termination}
+use Rattle.protocol.specs.Records.{terminating, undecided, latest, next_round, voted_yes, voted_no, dropped_out, told_of, entered, closed_voting, closed_termination}
 use Rattle.protocol.specs.Steps.{heard_in, closed, with_office, after}
 use Rattle.protocol.proofs.Updates.{at1_is}
 use Rattle.protocol.specs.History.{drops_out, votes, closes, enters, closing_gives, gives}
@@ -23,7 +23,7 @@ use Rattle.protocol.proofs.Steps.{up_ending}
 
 -- a termination closing of i
 abbrev pub ends_round : Model → ℕ → Call → Bool
-ends_round m i c = closes i c && (office m i).terminating
+ends_round m i c = closes i c && terminating (office m i)
 
 -- the acting office, and its record after the call
 abbrev pub actor : Call → ℕ
@@ -41,7 +41,7 @@ record_after m (Speak i j) = office m i
 record_after m (Hear i j) = office m i
 record_after m (Close i) = closed m i
 record_after m (DropOut i) = dropped_out (office m i)
-record_after m (Notice i j) = cond (office m i).terminating (told_of (office m i) j) (entered m.n (told_of (office m i) j))
+record_after m (Notice i j) = cond (terminating (office m i)) (told_of (office m i) j) (entered m.n (told_of (office m i) j))
 record_after m (Join i) = entered m.n (office m i)
 
 at_set : (m : Model) (w : ℕ → ℕ → TermWord) → Good m w → (i : ℕ) → i < m.n → (o : Office) (a : ℕ) → ((a ≡ i) × (office (with_office m i o) a ≡ o)) ⊎ ((a ≢ i) × (office (with_office m i o) a ≡ office m a))
@@ -55,8 +55,8 @@ same_offices m i a s e = elim (cases_eq a i) [ inl q ↦ inl (q, e ∙ ap (offic
 
 pub changed : (m : Model) (w : ℕ → ℕ → TermWord) → Good m w → (c : Call) → verdict m c ≡ 0 → (a : ℕ) → ((a ≡ actor c) × (office (after m c) a ≡ record_after m c)) ⊎ ((a ≢ actor c) × (office (after m c) a ≡ office m a))
 changed m w g (Vote i v) ok a = at_set m w g i (asked.vote_asked m i v ok).0 _ a
-changed m w g (Speak i j) ok a = same_offices m i a (after m (Speak i j)) (cond_both (office m i).terminating _ _ (λ (s : Model). office s a ≡ office m a) (λ _. refl) (λ _. refl))
-changed m w g (Hear i j) ok a = same_offices m i a (after m (Hear i j)) (cond_both (office m i).terminating _ _ (λ (s : Model). office s a ≡ office m a) (λ _. refl) (λ _. refl))
+changed m w g (Speak i j) ok a = same_offices m i a (after m (Speak i j)) (cond_both (terminating (office m i)) _ _ (λ (s : Model). office s a ≡ office m a) (λ _. refl) (λ _. refl))
+changed m w g (Hear i j) ok a = same_offices m i a (after m (Hear i j)) (cond_both (terminating (office m i)) _ _ (λ (s : Model). office s a ≡ office m a) (λ _. refl) (λ _. refl))
 changed m w g (Close i) ok a = at_set m w g i (asked.close_asked m i ok).0 _ a
 changed m w g (DropOut i) ok a = at_set m w g i (asked.drop_asked m i ok).0 _ a
 changed m w g (Notice i j) ok a = at_set m w g i (asked.notice_asked m i j ok).0 _ a
@@ -115,9 +115,9 @@ decision_new m (Hear i j) ok = refl
 decision_new m (Close i) ok = let e = eq-eqb i i refl in closed_new (eqb i i) e
   where
     closed_new : (b : Bool) → b ≡ true → (closed m i).decision ≡ latest (cond b (closing_gives m i) None) (office m i).decision
-    closed_new b e = rw e (pick (office m i).terminating _ _ _ _ (office m i).decision refl refl)
+    closed_new b e = rw e (pick (terminating (office m i)) _ _ _ _ (office m i).decision refl refl)
 decision_new m (DropOut i) ok = refl
-decision_new m (Notice i j) ok = cond_both (office m i).terminating _ _ (λ (o : Office). o.decision ≡ (office m i).decision) (λ _. refl) (λ _. refl)
+decision_new m (Notice i j) ok = cond_both (terminating (office m i)) _ _ (λ (o : Office). o.decision ≡ (office m i).decision) (λ _. refl) (λ _. refl)
 decision_new m (Join i) ok = refl
 
 pub deciding_new : (m : Model) (c : Call) → (record_after m c).deciding ≡ cond (ends_round m (actor c) c && not (undecided (closing_gives m (actor c)))) (Some (office m (actor c)).round) (office m (actor c)).deciding
@@ -126,14 +126,14 @@ deciding_new m (Speak i j) = refl
 deciding_new m (Hear i j) = refl
 deciding_new m (Close i) = closed_new (eqb i i) (eq-eqb i i refl)
   where
-    closed_new : (b : Bool) → b ≡ true → (closed m i).deciding ≡ cond ((b && (office m i).terminating) && not (undecided (closing_gives m i))) (Some (office m i).round) (office m i).deciding
-    closed_new b e = rw e (pick_round (office m i).terminating _ _ _ _ (Some (office m i).round) (office m i).deciding refl refl)
+    closed_new : (b : Bool) → b ≡ true → (closed m i).deciding ≡ cond ((b && terminating (office m i)) && not (undecided (closing_gives m i))) (Some (office m i).round) (office m i).deciding
+    closed_new b e = rw e (pick_round (terminating (office m i)) _ _ _ _ (Some (office m i).round) (office m i).deciding refl refl)
 deciding_new m (DropOut i) = refl
-deciding_new m (Notice i j) = cond_both (office m i).terminating _ _ (λ (o : Office). o.deciding ≡ (office m i).deciding) (λ _. refl) (λ _. refl)
+deciding_new m (Notice i j) = cond_both (terminating (office m i)) _ _ (λ (o : Office). o.deciding ≡ (office m i).deciding) (λ _. refl) (λ _. refl)
 deciding_new m (Join i) = refl
 
 -- a round more for a termination closing
-pub ending_new : (m : Model) (w : ℕ → ℕ → TermWord) → Good m w → (c : Call) → verdict m c ≡ 0 → (office m (actor c)).terminating ≡ true → ((record_after m c).terminating ≡ true) × ((record_after m c).round ≡ cond (ends_round m (actor c) c) 1 0 + (office m (actor c)).round)
+pub ending_new : (m : Model) (w : ℕ → ℕ → TermWord) → Good m w → (c : Call) → verdict m c ≡ 0 → terminating (office m (actor c)) ≡ true → (terminating (record_after m c) ≡ true) × ((record_after m c).round ≡ cond (ends_round m (actor c) c) 1 0 + (office m (actor c)).round)
 ending_new m w g (Vote i v) ok p = let (_, _, _, q, _) = asked.vote_asked m i v ok in absurd (clash p q)
   where
     clash : {b : Bool} → b ≡ true → b ≡ false → ⊥
@@ -141,26 +141,26 @@ ending_new m w g (Vote i v) ok p = let (_, _, _, q, _) = asked.vote_asked m i v 
 ending_new m w g (Speak i j) ok p = (p, omega arith)
 ending_new m w g (Hear i j) ok p = (p, omega arith)
 ending_new m w g (Close i) ok p = (
-  cond_both (office m i).terminating _ _ (λ (o : Office). o.terminating ≡ true) (λ _. p) (λ _. p),
-  cond_both (office m i).terminating _ _ (λ (o : Office). o.round ≡ next_round (office m i).round) (λ _. refl) (λ _. refl) ∙ up_ending m w g i p ok ∙ more (eqb i i) (office m i).terminating (office m i).round (eq-eqb i i refl) p,
+  cond_both (terminating (office m i)) _ _ (λ (o : Office). terminating o ≡ true) (λ _. refl) (λ _. p),
+  cond_both (terminating (office m i)) _ _ (λ (o : Office). o.round ≡ next_round (office m i).round) (λ _. refl) (λ _. refl) ∙ up_ending m w g i p ok ∙ more (eqb i i) (terminating (office m i)) (office m i).round (eq-eqb i i refl) p,
 )
   where
     more : (a b : Bool) (r : ℕ) → a ≡ true → b ≡ true → suc r ≡ cond (a && b) 1 0 + r
     more a b r e f = grind arith
 ending_new m w g (DropOut i) ok p = (p, omega arith)
-ending_new m w g (Notice i j) ok p = let e = cond-true (office m i).terminating (told_of (office m i) j) (entered m.n (told_of (office m i) j)) p in (ap (λ (o : Office). o.terminating) e ∙ p, ap (λ (o : Office). o.round) e ∙ omega arith)
+ending_new m w g (Notice i j) ok p = let e = cond-true (terminating (office m i)) (told_of (office m i) j) (entered m.n (told_of (office m i) j)) p in (ap terminating e ∙ p, ap (λ (o : Office). o.round) e ∙ omega arith)
 ending_new m w g (Join i) ok p = let (_, _, q, _) = asked.join_asked m i ok in absurd (clash p q)
   where
     clash : {b : Bool} → b ≡ true → b ≡ false → ⊥
     clash a b = grind arith
 
-pub voting_new : (m : Model) (c : Call) → (office m (actor c)).terminating ≡ false → ((record_after m c).terminating ≡ false) ⊎ (((record_after m c).terminating ≡ true) × ((record_after m c).round ≡ 1))
-voting_new m (Vote i v) p = inl (cond_both (eqb v 1) _ _ (λ (o : Office). o.terminating ≡ false) (λ _. p) (λ _. p))
+pub voting_new : (m : Model) (c : Call) → terminating (office m (actor c)) ≡ false → (terminating (record_after m c) ≡ false) ⊎ ((terminating (record_after m c) ≡ true) × ((record_after m c).round ≡ 1))
+voting_new m (Vote i v) p = inl (cond_both (eqb v 1) _ _ (λ (o : Office). terminating o ≡ false) (λ _. p) (λ _. p))
 voting_new m (Speak i j) p = inl p
 voting_new m (Hear i j) p = inl p
-voting_new m (Close i) p = inl (cond_both (office m i).terminating _ _ (λ (o : Office). o.terminating ≡ false) (λ _. p) (λ _. p))
+voting_new m (Close i) p = inl (ap terminating (cond-false (terminating (office m i)) _ _ p) ∙ p)
 voting_new m (DropOut i) p = inl p
-voting_new m (Notice i j) p = let e = cond-false (office m i).terminating (told_of (office m i) j) (entered m.n (told_of (office m i) j)) p in inr (ap (λ (o : Office). o.terminating) e, ap (λ (o : Office). o.round) e)
+voting_new m (Notice i j) p = let e = cond-false (terminating (office m i)) (told_of (office m i) j) (entered m.n (told_of (office m i) j)) p in inr (ap terminating e, ap (λ (o : Office). o.round) e)
 voting_new m (Join i) p = inr (refl, refl)
 
 two_ways : (b : Bool) (o p : Office) (f : Office → Bool) → f (cond b o p) ≡ true → ((b ≡ true) × (f o ≡ true)) ⊎ ((b ≡ false) × (f p ≡ true))
@@ -175,7 +175,7 @@ yes_new m w g (Vote i v) ok e = elim (two_ways (eqb v 1) (voted_yes (office m i)
 ]
 yes_new m w g (Speak i j) ok e = inr e
 yes_new m w g (Hear i j) ok e = inr e
-yes_new m w g (Close i) ok e = inr (elim (two_ways (office m i).terminating (closed_termination m.n (office m i) (heard_in m.termination i (office m i).round) (heard_in m.termination i ((office m i).round - 1))) (closed_voting m.n i (office m i) (heard_in m.voting i (office m i).round)) (λ o. member o.knowledge.yes i) e) [
+yes_new m w g (Close i) ok e = inr (elim (two_ways (terminating (office m i)) (closed_termination m.n (office m i) (heard_in m.termination i (office m i).round) (heard_in m.termination i ((office m i).round - 1))) (closed_voting m.n i (office m i) (heard_in m.voting i (office m i).round)) (λ o. member o.knowledge.yes i) e) [
   | inl (_, x) ↦ x
   | inr (_, x) ↦ elim (or_cases _ _ (sym (closed-yes m.n i (office m i).knowledge (heard_in m.voting i (office m i).round) i) ∙ x)) [
     | inl own ↦ own
@@ -184,7 +184,7 @@ yes_new m w g (Close i) ok e = inr (elim (two_ways (office m i).terminating (clo
   ]
 ])
 yes_new m w g (DropOut i) ok e = inr e
-yes_new m w g (Notice i j) ok e = inr (elim (two_ways (office m i).terminating (told_of (office m i) j) (entered m.n (told_of (office m i) j)) (λ o. member o.knowledge.yes i) e) [ inl (_, x) ↦ x | inr (_, x) ↦ x ])
+yes_new m w g (Notice i j) ok e = inr (elim (two_ways (terminating (office m i)) (told_of (office m i) j) (entered m.n (told_of (office m i) j)) (λ o. member o.knowledge.yes i) e) [ inl (_, x) ↦ x | inr (_, x) ↦ x ])
 yes_new m w g (Join i) ok e = inr e
 
 -- who has itself in its no had it before, or votes now
@@ -195,7 +195,7 @@ no_new m w g (Vote i v) ok e = elim (two_ways (eqb v 1) (voted_yes (office m i) 
 ]
 no_new m w g (Speak i j) ok e = inr e
 no_new m w g (Hear i j) ok e = inr e
-no_new m w g (Close i) ok e = inr (elim (two_ways (office m i).terminating (closed_termination m.n (office m i) (heard_in m.termination i (office m i).round) (heard_in m.termination i ((office m i).round - 1))) (closed_voting m.n i (office m i) (heard_in m.voting i (office m i).round)) (λ o. member o.knowledge.no i) e) [
+no_new m w g (Close i) ok e = inr (elim (two_ways (terminating (office m i)) (closed_termination m.n (office m i) (heard_in m.termination i (office m i).round) (heard_in m.termination i ((office m i).round - 1))) (closed_voting m.n i (office m i) (heard_in m.voting i (office m i).round)) (λ o. member o.knowledge.no i) e) [
   | inl (_, x) ↦ x
   | inr (_, x) ↦ elim (or_cases _ _ (sym (closed-no m.n i (office m i).knowledge (heard_in m.voting i (office m i).round) i) ∙ x)) [
     | inl own ↦ own
@@ -204,7 +204,7 @@ no_new m w g (Close i) ok e = inr (elim (two_ways (office m i).terminating (clos
   ]
 ])
 no_new m w g (DropOut i) ok e = inr e
-no_new m w g (Notice i j) ok e = inr (elim (two_ways (office m i).terminating (told_of (office m i) j) (entered m.n (told_of (office m i) j)) (λ o. member o.knowledge.no i) e) [ inl (_, x) ↦ x | inr (_, x) ↦ x ])
+no_new m w g (Notice i j) ok e = inr (elim (two_ways (terminating (office m i)) (told_of (office m i) j) (entered m.n (told_of (office m i) j)) (λ o. member o.knowledge.no i) e) [ inl (_, x) ↦ x | inr (_, x) ↦ x ])
 no_new m w g (Join i) ok e = inr e
 
 pub enters_other : (c : Call) (a : ℕ) → a ≢ actor c → enters a c ≡ false
@@ -222,11 +222,11 @@ or_false b = grind arith
 or_true : (b c : Bool) → c ≡ true → true ≡ (b || c)
 or_true b c e = grind arith
 
-pub phase_new : (m : Model) (c : Call) → (record_after m c).terminating ≡ ((office m (actor c)).terminating || enters (actor c) c)
-phase_new m (Vote i v) = cond_both (eqb v 1) _ _ (λ (o : Office). o.terminating ≡ ((office m i).terminating || false)) (λ _. or_false _) (λ _. or_false _)
+pub phase_new : (m : Model) (c : Call) → terminating (record_after m c) ≡ (terminating (office m (actor c)) || enters (actor c) c)
+phase_new m (Vote i v) = cond_both (eqb v 1) _ _ (λ (o : Office). terminating o ≡ (terminating (office m i) || false)) (λ _. or_false _) (λ _. or_false _)
 phase_new m (Speak i j) = or_false _
 phase_new m (Hear i j) = or_false _
-phase_new m (Close i) = cond_both (office m i).terminating _ _ (λ (o : Office). o.terminating ≡ ((office m i).terminating || false)) (λ _. or_false _) (λ _. or_false _)
+phase_new m (Close i) = cond_both (terminating (office m i)) _ _ (λ (o : Office). terminating o ≡ (terminating (office m i) || false)) (λ p. sym p ∙ or_false _) (λ _. or_false _)
 phase_new m (DropOut i) = or_false _
-phase_new m (Notice i j) = cond_both (office m i).terminating _ _ (λ (o : Office). o.terminating ≡ ((office m i).terminating || eqb i i)) (λ p. p ∙ or_true _ _ (eq-eqb i i refl)) (λ _. or_true _ _ (eq-eqb i i refl))
+phase_new m (Notice i j) = cond_both (terminating (office m i)) _ _ (λ (o : Office). terminating o ≡ (terminating (office m i) || eqb i i)) (λ p. p ∙ or_true _ _ (eq-eqb i i refl)) (λ _. or_true _ _ (eq-eqb i i refl))
 phase_new m (Join i) = or_true _ _ (eq-eqb i i refl)

@@ -21,7 +21,7 @@ use Rattle.protocol.specs.Asked.{waiting_from, as_before, verdict}
 use Rattle.protocol.specs.Hearing.{heard, spoke}
 use Rattle.protocol.specs.Letters.{N, A, to_abort, to_commit}
 use Rattle.protocol.specs.Model.{Mail, Model, office, plan_round, voting_rounds}
-use Rattle.protocol.specs.Records.{undecided}
+use Rattle.protocol.specs.Records.{terminating, word, undecided}
 use Rattle.protocol.specs.Rules.{class, first_word}
 use Rattle.protocol.specs.History.{is_drop_out}
 use Rattle.protocol.proofs.Sums.{every_at, all_below, every_not, some_at, some-from, full_from, count_all, no_member}
@@ -139,12 +139,12 @@ module _ (m : Model) (w : ℕ → ℕ → TermWord) (g : Good m w) (stuck : (c :
   gone : (j : ℕ) → not (office m j).standing ≡ true → (office m j).standing ≡ true → ⊥
   gone j a b = grind arith
 
-  voted_all : (i : ℕ) → i < m.n → (office m i).standing ≡ true → (office m i).terminating ≡ false → (office m i).voted ≡ true
+  voted_all : (i : ℕ) → i < m.n → (office m i).standing ≡ true → terminating (office m i) ≡ false → (office m i).voted ≡ true
   voted_all i li st p = elim (cases_Bool (office m i).voted) [ inl e ↦ e | inr e ↦ absurd (stuck (Vote i 1) refl (accepts.vote_ok m few i li st p e)) ]
 
   -- once an office dropped out, every standing office has entered
-  has_entered : (d : ℕ) → d < m.n → (office m d).standing ≡ false → (i : ℕ) → i < m.n → (office m i).standing ≡ true → (office m i).terminating ≡ true
-  has_entered d ld so i li st = elim (cases_Bool (office m i).terminating) [
+  has_entered : (d : ℕ) → d < m.n → (office m d).standing ≡ false → (i : ℕ) → i < m.n → (office m i).standing ≡ true → terminating (office m i) ≡ true
+  has_entered d ld so i li st = elim (cases_Bool (terminating (office m i))) [
     | inl p ↦ p
     | inr p ↦ absurd (elim (cases_Bool (waiting_from m.termination d i)) [
       | inr q ↦ stuck (Notice i d) refl (accepts.notice_ok m few i li st d ld (λ e. clash st (ap (λ (z : ℕ). (office m z).standing) e ∙ so)) so ((g.rec i li).untold p d) q)
@@ -156,10 +156,10 @@ module _ (m : Model) (w : ℕ → ℕ → TermWord) (g : Good m w) (stuck : (c :
     t_is : (i : ℕ) → i < m.n → (office m i).standing ≡ true → t_of (office m i) ≡ (office m i).round
     t_is i li st = cond-true _ _ _ (has_entered d ld so i li st)
 
-    same-words : (j : ℕ) → j < m.n → (office m j).standing ≡ true → as_before same_term m.termination j (office m j).round (office m j).word ≡ true
+    same-words : (j : ℕ) → j < m.n → (office m j).standing ≡ true → as_before same_term m.termination j (office m j).round (word (office m j)) ≡ true
     unfolding as_before
-    same-words j lj st = all_below 16 (λ r. agrees same_term (office m j).word (m.termination.places j r (office m j).round))
-        (λ r lr. agrees_own (m.termination.places j r (office m j).round) (office m j).word (w j (office m j).round) (own_word (net m w) j r (office m j).round (g.sound.own j r (office m j).round)) ((g.rec j lj).word_now (has_entered d ld so j lj st)))
+    same-words j lj st = all_below 16 (λ r. agrees same_term (word (office m j)) (m.termination.places j r (office m j).round))
+        (λ r lr. agrees_own (m.termination.places j r (office m j).round) (word (office m j)) (w j (office m j).round) (own_word (net m w) j r (office m j).round (g.sound.own j r (office m j).round)) ((g.rec j lj).word_now (has_entered d ld so j lj st)))
 
     spoken_in : (j : ℕ) → j < m.n → (office m j).standing ≡ true → (office m j).round ≤ m.termination.reach → (i : ℕ) → i < m.n → j ≢ i → vacant (m.termination.places j i (office m j).round) ≡ false
     spoken_in j lj st rr i li ne = elim (cases_Bool (vacant (m.termination.places j i (office m j).round))) [
@@ -244,7 +244,7 @@ module _ (m : Model) (w : ℕ → ℕ → TermWord) (g : Good m w) (stuck : (c :
           ]
         ]
 
-        heard_j : ((j : ℕ) → j < m.n → (office m j).standing ≡ true → (office m j).round < b → (office m j).decision ≢ None) → (j : ℕ) → j < m.n → i ≢ j → member (office m i).told j ≡ false → 1 ≤ (office m i).round → (office m i).round ≤ m.termination.reach → (office m i).terminating ≡ true → is_taken (m.termination.places j i (office m i).round) ≡ true
+        heard_j : ((j : ℕ) → j < m.n → (office m j).standing ≡ true → (office m j).round < b → (office m j).decision ≢ None) → (j : ℕ) → j < m.n → i ≢ j → member (office m i).told j ≡ false → 1 ≤ (office m i).round → (office m i).round ≤ m.termination.reach → terminating (office m i) ≡ true → is_taken (m.termination.places j i (office m i).round) ≡ true
         heard_j ih j lj ne nt r1 rr p = elim (cases_Bool (is_taken (m.termination.places j i (office m i).round))) [
           | inl e ↦ e
           | inr e ↦ absurd (stuck (Hear i j) refl (accepts.hear_ending_ok m few i li st j lj ne p un r1 rr (waiting _ (posted ih j lj ne nt r1 rr) e)))
@@ -252,8 +252,8 @@ module _ (m : Model) (w : ℕ → ℕ → TermWord) (g : Good m w) (stuck : (c :
 
   -- where nobody dropped out
   module _ (all : (j : ℕ) → j < m.n → (office m j).standing ≡ true) where
-    voting : (j : ℕ) → j < m.n → (office m j).terminating ≡ false
-    voting j lj = elim (cases_Bool (office m j).terminating) [
+    voting : (j : ℕ) → j < m.n → terminating (office m j) ≡ false
+    voting j lj = elim (cases_Bool (terminating (office m j))) [
       | inr p ↦ p
       | inl p ↦ let f = (g.rec j lj).from in let t : t_of (office m j) ≡ (office m j).round = cond-true _ _ _ p in let (d, ld, dd, _) = g.sound.cause j (omega arith) in absurd (gone d dd (all d ld))
     ]
@@ -319,7 +319,7 @@ module _ (m : Model) (w : ℕ → ℕ → TermWord) (g : Good m w) (stuck : (c :
               ]
             ]
 
-        heard_j : ((j : ℕ) → j < m.n → (office m j).round < b → (office m j).round ≤ last (votes m) j → ⊥) → (j : ℕ) → j < m.n → m.names (plan_round m.h (office m i).round) j i ≡ true → (office m i).terminating ≡ false → (office m i).voted ≡ true → (office m i).round ≤ voting_rounds m.h (office m i).decision → is_taken (m.voting.places j i (office m i).round) ≡ true
+        heard_j : ((j : ℕ) → j < m.n → (office m j).round < b → (office m j).round ≤ last (votes m) j → ⊥) → (j : ℕ) → j < m.n → m.names (plan_round m.h (office m i).round) j i ≡ true → terminating (office m i) ≡ false → (office m i).voted ≡ true → (office m i).round ≤ voting_rounds m.h (office m i).decision → is_taken (m.voting.places j i (office m i).round) ≡ true
         heard_j ih j lj nm p vo le' = elim (cases_Bool (is_taken (m.voting.places j i (office m i).round))) [
           | inl e ↦ e
           | inr e ↦ let ne = (g.fixed.proper _ j i nm).apart in

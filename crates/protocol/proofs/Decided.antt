@@ -17,6 +17,7 @@ use Rattle.protocol.proofs.NetWhole.{A-from, A_word, C-first}
 use Rattle.protocol.proofs.NetWords.{word_C, word_N, fits1_A}
 use Rattle.protocol.proofs.Voting.{has_yes, has_no}
 use Rattle.protocol.proofs.View.{t_of, net, votes, Good}
+use Rattle.protocol.specs.Records.{terminating}
 
 pub three_abort : (a b c : Bool) → cond a to_abort (cond b to_commit (cond c to_abort None)) ≡ to_abort → (a ≡ true) ⊎ (c ≡ true)
 three_abort a b c e = grind arith
@@ -54,7 +55,7 @@ rule_three s h i k li k1 kt no-A (inl r1) =
 module _ (m : Model) (w : ℕ → ℕ → TermWord) (g : Good m w) where
   -- where a decision comes from: the class of what i knows, or a termination closing
   pub source : (i : ℕ) → i < m.n → (office m i).decision ≢ None → ((office m i).decision ≡ decision_of (class m.n (office m i).knowledge)) ⊎ ((k : ℕ) × (1 ≤ k) × (k < (net m w).t i) × ((office m i).decision ≡ fate_at (net m w) i k))
-  source i li nd = elim (cases_Bool (office m i).terminating) [
+  source i li nd = elim (cases_Bool (terminating (office m i))) [
     | inr p ↦ inl ((g.rec i li).in_voting p)
     | inl p ↦ elim ((g.rec i li).shut p nd) [
       | inl (_, e) ↦ inl e
@@ -62,8 +63,8 @@ module _ (m : Model) (w : ℕ → ℕ → TermWord) (g : Good m w) where
     ]
   ]
 
-  pub in_ending : (i : ℕ) → 1 ≤ (net m w).t i → (office m i).terminating ≡ true
-  in_ending i t1 = go (office m i).terminating (office m i).round t1
+  pub in_ending : (i : ℕ) → 1 ≤ (net m w).t i → terminating (office m i) ≡ true
+  in_ending i t1 = go (terminating (office m i)) (office m i).round t1
     where
       go : (b : Bool) (x : ℕ) → 1 ≤ cond b x 0 → b ≡ true
       go b x e = grind arith

@@ -11,7 +11,7 @@ use Rattle.protocol.specs.declared.office.Office.{Office}
 use Rattle.protocol.specs.Asked.{verdict}
 use Rattle.protocol.specs.Letters.{to_abort, to_commit}
 use Rattle.protocol.specs.Model.{Model, office}
-use Rattle.protocol.specs.Records.{undecided, latest}
+use Rattle.protocol.specs.Records.{terminating, undecided, latest}
 use Rattle.protocol.specs.Rules.{class}
 use Rattle.protocol.specs.Steps.{heard_in, after, step, run}
 use Rattle.protocol.specs.History.{drops_out, votes, closes, enters, accepted, made, dropped, voted, closings_since, closings, closing_gives, gives, held, DecidesInTermination}
@@ -44,8 +44,8 @@ step-n m c = cond_both (accepted m c) (after m c) m (λ (s : Model). s.n ≡ m.n
   where
     after-n : (c : Call) → (after m c).n ≡ m.n
     after-n (Vote i v) = refl
-    after-n (Speak i j) = cond_both (office m i).terminating _ _ (λ (s : Model). s.n ≡ m.n) (λ _. refl) (λ _. refl)
-    after-n (Hear i j) = cond_both (office m i).terminating _ _ (λ (s : Model). s.n ≡ m.n) (λ _. refl) (λ _. refl)
+    after-n (Speak i j) = cond_both (terminating (office m i)) _ _ (λ (s : Model). s.n ≡ m.n) (λ _. refl) (λ _. refl)
+    after-n (Hear i j) = cond_both (terminating (office m i)) _ _ (λ (s : Model). s.n ≡ m.n) (λ _. refl) (λ _. refl)
     after-n (Close i) = refl
     after-n (DropOut i) = refl
     after-n (Notice i j) = refl
@@ -153,24 +153,24 @@ no-voted m f (c ∷ h) a e = elim (no-voted (step m c) (fine_step m f c) h a e) 
     now a b e = grind arith
 
 -- phases
-step_phase : (m : Model) → Fine m → (c : Call) (a : ℕ) → (office (step m c) a).terminating ≡ ((office m a).terminating || (accepted m c && enters a c))
+step_phase : (m : Model) → Fine m → (c : Call) (a : ℕ) → terminating (office (step m c) a) ≡ (terminating (office m a) || (accepted m c && enters a c))
 step_phase m f c a = go (stepped m f c a)
   where
     none : (b x e : Bool) → (x ≡ false) ⊎ (e ≡ false) → b ≡ (b || (x && e))
     none b x e o = grind arith
 
-    go : Stepped m c a → (office (step m c) a).terminating ≡ ((office m a).terminating || (accepted m c && enters a c))
-    go (refused e x) = ap (λ (o : Office). o.terminating) x ∙ none (office m a).terminating (accepted m c) (enters a c) (inl e)
-    go (acted e ok p x) = ap (λ (o : Office). o.terminating) x ∙ phase_new m c ∙ ap₂ (λ (b : Bool) (i : ℕ). (office m i).terminating || (b && enters i c)) (sym e) (sym p)
-    go (other e p x) = ap (λ (o : Office). o.terminating) x ∙ none (office m a).terminating (accepted m c) (enters a c) (inr (enters_other c a p))
+    go : Stepped m c a → terminating (office (step m c) a) ≡ (terminating (office m a) || (accepted m c && enters a c))
+    go (refused e x) = ap terminating x ∙ none (terminating (office m a)) (accepted m c) (enters a c) (inl e)
+    go (acted e ok p x) = ap terminating x ∙ phase_new m c ∙ ap₂ (λ (b : Bool) (i : ℕ). terminating (office m i) || (b && enters i c)) (sym e) (sym p)
+    go (other e p x) = ap terminating x ∙ none (terminating (office m a)) (accepted m c) (enters a c) (inr (enters_other c a p))
 
-pub phase_shown : (m : Model) → Fine m → (h : List Call) (a : ℕ) → (office (run m h) a).terminating ≡ ((office m a).terminating || entered m h a)
+pub phase_shown : (m : Model) → Fine m → (h : List Call) (a : ℕ) → terminating (office (run m h) a) ≡ (terminating (office m a) || entered m h a)
 unfolding run made
-phase_shown m f [] a = or_false (office m a).terminating
+phase_shown m f [] a = or_false (terminating (office m a))
   where
     or_false : (b : Bool) → b ≡ (b || false)
     or_false b = grind arith
-phase_shown m f (c ∷ h) a = phase_shown (step m c) (fine_step m f c) h a ∙ ap (λ b. b || entered (step m c) h a) (step_phase m f c a) ∙ regroup (office m a).terminating (accepted m c && enters a c) (entered (step m c) h a)
+phase_shown m f (c ∷ h) a = phase_shown (step m c) (fine_step m f c) h a ∙ ap (λ b. b || entered (step m c) h a) (step_phase m f c a) ∙ regroup (terminating (office m a)) (accepted m c && enters a c) (entered (step m c) h a)
   where
     regroup : (a b c : Bool) → ((a || b) || c) ≡ (a || (b || c))
     regroup a b c = grind arith
@@ -180,11 +180,11 @@ unfoldable ended : Model → List Call → ℕ → ℕ
 ended m [] i = 0
 ended m (c ∷ cs) i = cond (accepted m c && ends_round m i c) 1 0 + ended (step m c) cs i
 
-ended_is : (m : Model) → Fine m → (h : List Call) (a : ℕ) → closings_since m (office m a).terminating h a ≡ ended m h a
+ended_is : (m : Model) → Fine m → (h : List Call) (a : ℕ) → closings_since m (terminating (office m a)) h a ≡ ended m h a
 unfolding closings_since ended
 ended_is m f [] a = refl
 ended_is m f (c ∷ h) a =
-    let one = swap (accepted m c) (office m a).terminating (closes a c) in
+    let one = swap (accepted m c) (terminating (office m a)) (closes a c) in
     let rest = ap (λ (b : Bool). closings_since (step m c) b h a) (sym (step_phase m f c a)) ∙ ended_is (step m c) (fine_step m f c) h a in
     ap₂ (λ (x y : ℕ). x + y) one rest
   where
@@ -192,30 +192,30 @@ ended_is m f (c ∷ h) a =
     swap a b c = grind arith
 
 -- termination rounds
-step_ending : (m : Model) → Fine m → (c : Call) (a : ℕ) → (office m a).terminating ≡ true → ((office (step m c) a).terminating ≡ true) × ((office (step m c) a).round ≡ cond (accepted m c && ends_round m a c) 1 0 + (office m a).round)
+step_ending : (m : Model) → Fine m → (c : Call) (a : ℕ) → terminating (office m a) ≡ true → (terminating (office (step m c) a) ≡ true) × ((office (step m c) a).round ≡ cond (accepted m c && ends_round m a c) 1 0 + (office m a).round)
 step_ending m (w, g) c a pe = go (stepped m (w, g) c a)
   where
     none : (a b c : Bool) (r : ℕ) → (a ≡ false) ⊎ (b ≡ false) → r ≡ cond (a && (b && c)) 1 0 + r
     none a b c r e = grind arith
 
-    go : Stepped m c a → ((office (step m c) a).terminating ≡ true) × ((office (step m c) a).round ≡ cond (accepted m c && ends_round m a c) 1 0 + (office m a).round)
-    go (refused e x) = (ap (λ (o : Office). o.terminating) x ∙ pe, ap (λ (o : Office). o.round) x ∙ none (accepted m c) (closes a c) (office m a).terminating (office m a).round (inl e))
-    go (acted e ok p x) = let (y, z) = ending_new m w g c ok (ap (λ (i : ℕ). (office m i).terminating) (sym p) ∙ pe) in
-        (ap (λ (o : Office). o.terminating) x ∙ y, ap (λ (o : Office). o.round) x ∙ z ∙ ap₂ (λ (b : Bool) (i : ℕ). cond (b && ends_round m i c) 1 0 + (office m i).round) (sym e) (sym p))
-    go (other e p x) = (ap (λ (o : Office). o.terminating) x ∙ pe, ap (λ (o : Office). o.round) x ∙ none (accepted m c) (closes a c) (office m a).terminating (office m a).round (inr (closes_other c a p)))
+    go : Stepped m c a → (terminating (office (step m c) a) ≡ true) × ((office (step m c) a).round ≡ cond (accepted m c && ends_round m a c) 1 0 + (office m a).round)
+    go (refused e x) = (ap terminating x ∙ pe, ap (λ (o : Office). o.round) x ∙ none (accepted m c) (closes a c) (terminating (office m a)) (office m a).round (inl e))
+    go (acted e ok p x) = let (y, z) = ending_new m w g c ok (ap (λ (i : ℕ). terminating (office m i)) (sym p) ∙ pe) in
+        (ap terminating x ∙ y, ap (λ (o : Office). o.round) x ∙ z ∙ ap₂ (λ (b : Bool) (i : ℕ). cond (b && ends_round m i c) 1 0 + (office m i).round) (sym e) (sym p))
+    go (other e p x) = (ap terminating x ∙ pe, ap (λ (o : Office). o.round) x ∙ none (accepted m c) (closes a c) (terminating (office m a)) (office m a).round (inr (closes_other c a p)))
 
-step-voting : (m : Model) → Fine m → (c : Call) (a : ℕ) → (office m a).terminating ≡ false → ((office (step m c) a).terminating ≡ false) ⊎ (((office (step m c) a).terminating ≡ true) × ((office (step m c) a).round ≡ 1))
+step-voting : (m : Model) → Fine m → (c : Call) (a : ℕ) → terminating (office m a) ≡ false → (terminating (office (step m c) a) ≡ false) ⊎ ((terminating (office (step m c) a) ≡ true) × ((office (step m c) a).round ≡ 1))
 step-voting m f c a pe = go (stepped m f c a)
   where
-    go : Stepped m c a → ((office (step m c) a).terminating ≡ false) ⊎ (((office (step m c) a).terminating ≡ true) × ((office (step m c) a).round ≡ 1))
-    go (refused e x) = inl (ap (λ (o : Office). o.terminating) x ∙ pe)
-    go (acted e ok p x) = elim (voting_new m c (ap (λ (i : ℕ). (office m i).terminating) (sym p) ∙ pe)) [
-      | inl y ↦ inl (ap (λ (o : Office). o.terminating) x ∙ y)
-      | inr (y, z) ↦ inr (ap (λ (o : Office). o.terminating) x ∙ y, ap (λ (o : Office). o.round) x ∙ z)
+    go : Stepped m c a → (terminating (office (step m c) a) ≡ false) ⊎ ((terminating (office (step m c) a) ≡ true) × ((office (step m c) a).round ≡ 1))
+    go (refused e x) = inl (ap terminating x ∙ pe)
+    go (acted e ok p x) = elim (voting_new m c (ap (λ (i : ℕ). terminating (office m i)) (sym p) ∙ pe)) [
+      | inl y ↦ inl (ap terminating x ∙ y)
+      | inr (y, z) ↦ inr (ap terminating x ∙ y, ap (λ (o : Office). o.round) x ∙ z)
     ]
-    go (other e p x) = inl (ap (λ (o : Office). o.terminating) x ∙ pe)
+    go (other e p x) = inl (ap terminating x ∙ pe)
 
-rounds_on : (m : Model) → Fine m → (h : List Call) (a : ℕ) → (office m a).terminating ≡ true → ((office (run m h) a).terminating ≡ true) × ((office (run m h) a).round ≡ ended m h a + (office m a).round)
+rounds_on : (m : Model) → Fine m → (h : List Call) (a : ℕ) → terminating (office m a) ≡ true → (terminating (office (run m h) a) ≡ true) × ((office (run m h) a).round ≡ ended m h a + (office m a).round)
 unfolding run ended
 rounds_on m f [] a e = (e, omega arith)
 rounds_on m f (c ∷ h) a e =
@@ -223,14 +223,14 @@ rounds_on m f (c ∷ h) a e =
     let (x, y) = rounds_on (step m c) (fine_step m f c) h a p in
     (x, omega arith)
 
-rounds_ended : (m : Model) → Fine m → (h : List Call) (a : ℕ) → (office m a).terminating ≡ false → (office (run m h) a).terminating ≡ true → (office (run m h) a).round ≡ suc (ended m h a)
+rounds_ended : (m : Model) → Fine m → (h : List Call) (a : ℕ) → terminating (office m a) ≡ false → terminating (office (run m h) a) ≡ true → (office (run m h) a).round ≡ suc (ended m h a)
 unfolding run ended
 rounds_ended m f [] a p e = absurd (clash p e)
   where
     clash : {b : Bool} → b ≡ false → b ≡ true → ⊥
     clash x y = grind arith
 rounds_ended m f (c ∷ h) a p e =
-    let z = no_close (accepted m c) (closes a c) (office m a).terminating p in
+    let z = no_close (accepted m c) (closes a c) (terminating (office m a)) p in
     elim (step-voting m f c a p) [
       | inl q ↦ let ih = rounds_ended (step m c) (fine_step m f c) h a q e in omega arith
       | inr (q, r) ↦ let (_, y) = rounds_on (step m c) (fine_step m f c) h a q in omega arith
@@ -239,11 +239,11 @@ rounds_ended m f (c ∷ h) a p e =
     no_close : (a b c : Bool) → c ≡ false → ◌≡◌ {A = ℕ} (cond (a && (b && c)) 1 0) 0
     no_close a b c e = grind arith
 
-pub rounds_shown : (m : Model) → Fine m → (h : List Call) (a : ℕ) → (office m a).terminating ≡ false → (office (run m h) a).terminating ≡ true → (office (run m h) a).round ≡ suc (closings m h a)
+pub rounds_shown : (m : Model) → Fine m → (h : List Call) (a : ℕ) → terminating (office m a) ≡ false → terminating (office (run m h) a) ≡ true → (office (run m h) a).round ≡ suc (closings m h a)
 rounds_shown m f h a p e = rounds_ended m f h a p e ∙ ap suc (sym (ended_is m f h a) ∙ ap (λ (b : Bool). closings_since m b h a) p)
 
 -- who entered is in the termination
-pub in_termination : (m : Model) → Fine m → (h : List Call) (a : ℕ) → (office m a).terminating ≡ false → (office (run m h) a).terminating ≡ entered m h a
+pub in_termination : (m : Model) → Fine m → (h : List Call) (a : ℕ) → terminating (office m a) ≡ false → terminating (office (run m h) a) ≡ entered m h a
 in_termination m f h a p = phase_shown m f h a ∙ ap (λ b. b || entered m h a) p
 
 -- a decision is never changed
@@ -259,7 +259,7 @@ module _ (m : Model) (w : ℕ → ℕ → TermWord) (g : Good m w) (i : ℕ) whe
   both_stay : (d d' : Option Decision) → d ≢ None → (d ≡ to_abort → d' ≡ to_commit → ⊥) → (d ≡ to_commit → d' ≡ to_abort → ⊥) → latest d' d ≡ d
   both_stay d d' a b c = grind arith
 
-  closing-stays : i < m.n → (office m i).terminating ≡ false → (office m i).decision ≢ None → latest (decision_of (class m.n (after-closing m w g i))) (office m i).decision ≡ (office m i).decision
+  closing-stays : i < m.n → terminating (office m i) ≡ false → (office m i).decision ≢ None → latest (decision_of (class m.n (after-closing m w g i))) (office m i).decision ≡ (office m i).decision
   closing-stays li p nd =
       let de = (g.rec i li).in_voting p in
       both_stay (office m i).decision (decision_of (class m.n (after-closing m w g i))) nd
@@ -281,10 +281,10 @@ kept_new m w g (Vote i v) ok nd =
     absurd (nd ((g.rec i li).in_voting p ∙ yes-class m w g i (office m i).knowledge (ap (λ k. k.no.mask) k) (ap (λ k. k.ready.mask) k)))
 kept_new m w g (Speak i j) ok nd = refl
 kept_new m w g (Hear i j) ok nd = refl
-kept_new m w g (Close i) ok nd = cond_both (office m i).terminating _ _ (λ (o : Office). o.decision ≡ (office m i).decision)
+kept_new m w g (Close i) ok nd = cond_both (terminating (office m i)) _ _ (λ (o : Office). o.decision ≡ (office m i).decision)
     (λ p. absurd (nd (asked.close_ending m i p ok))) (λ p. closing-stays m w g i (asked.close_asked m i ok).0 p nd)
 kept_new m w g (DropOut i) ok nd = refl
-kept_new m w g (Notice i j) ok nd = cond_both (office m i).terminating _ _ (λ (o : Office). o.decision ≡ (office m i).decision) (λ _. refl) (λ _. refl)
+kept_new m w g (Notice i j) ok nd = cond_both (terminating (office m i)) _ _ (λ (o : Office). o.decision ≡ (office m i).decision) (λ _. refl) (λ _. refl)
 kept_new m w g (Join i) ok nd = refl
 
 step_stays : (m : Model) → Fine m → (c : Call) (a : ℕ) → (office m a).decision ≢ None → (office (step m c) a).decision ≡ (office m a).decision
@@ -301,7 +301,7 @@ stays m f [] a nd = refl
 stays m f (c ∷ h) a nd = let e = step_stays m f c a nd in stays (step m c) (fine_step m f c) h a (λ z. nd (sym e ∙ z)) ∙ e
 
 -- the deciding round
-deciding_kept : (m : Model) (c : Call) → verdict m c ≡ 0 → (office m (actor c)).terminating ≡ true → (office m (actor c)).decision ≢ None → (record_after m c).deciding ≡ (office m (actor c)).deciding
+deciding_kept : (m : Model) (c : Call) → verdict m c ≡ 0 → terminating (office m (actor c)) ≡ true → (office m (actor c)).decision ≢ None → (record_after m c).deciding ≡ (office m (actor c)).deciding
 deciding_kept m (Vote i v) ok p nd = deciding_new m (Vote i v)
 deciding_kept m (Speak i j) ok p nd = refl
 deciding_kept m (Hear i j) ok p nd = refl
@@ -310,15 +310,15 @@ deciding_kept m (DropOut i) ok p nd = refl
 deciding_kept m (Notice i j) ok p nd = deciding_new m (Notice i j)
 deciding_kept m (Join i) ok p nd = refl
 
-step_deciding : (m : Model) → Fine m → (c : Call) (a : ℕ) → (office m a).terminating ≡ true → (office m a).decision ≢ None → (office (step m c) a).deciding ≡ (office m a).deciding
+step_deciding : (m : Model) → Fine m → (c : Call) (a : ℕ) → terminating (office m a) ≡ true → (office m a).decision ≢ None → (office (step m c) a).deciding ≡ (office m a).deciding
 step_deciding m f c a pe nd = go (stepped m f c a)
   where
     go : Stepped m c a → (office (step m c) a).deciding ≡ (office m a).deciding
     go (refused e x) = ap (λ (o : Office). o.deciding) x
-    go (acted e ok p x) = ap (λ (o : Office). o.deciding) x ∙ deciding_kept m c ok (ap (λ (i : ℕ). (office m i).terminating) (sym p) ∙ pe) (λ z. nd (ap (λ (i : ℕ). (office m i).decision) p ∙ z)) ∙ ap (λ (i : ℕ). (office m i).deciding) (sym p)
+    go (acted e ok p x) = ap (λ (o : Office). o.deciding) x ∙ deciding_kept m c ok (ap (λ (i : ℕ). terminating (office m i)) (sym p) ∙ pe) (λ z. nd (ap (λ (i : ℕ). (office m i).decision) p ∙ z)) ∙ ap (λ (i : ℕ). (office m i).deciding) (sym p)
     go (other e p x) = ap (λ (o : Office). o.deciding) x
 
-deciding_on : (m : Model) → Fine m → (h : List Call) (a : ℕ) → (office m a).terminating ≡ true → (office m a).decision ≢ None → (office (run m h) a).deciding ≡ (office m a).deciding
+deciding_on : (m : Model) → Fine m → (h : List Call) (a : ℕ) → terminating (office m a) ≡ true → (office m a).decision ≢ None → (office (run m h) a).deciding ≡ (office m a).deciding
 unfolding run
 deciding_on m f [] a p nd = refl
 deciding_on m f (c ∷ h) a p nd =
@@ -326,8 +326,8 @@ deciding_on m f (c ∷ h) a p nd =
     deciding_on (step m c) (fine_step m f c) h a (step_ending m f c a p).0 (λ z. nd (sym e ∙ z)) ∙ step_deciding m f c a p nd
 
 -- i decides by the closing
-decides : (m : Model) → Fine m → (i : ℕ) → verdict m (Close i) ≡ 0 → (office m i).terminating ≡ true → closing_gives m i ≢ None →
-    ((office (step m (Close i)) i).terminating ≡ true) × ((office (step m (Close i)) i).decision ≢ None) × ((office (step m (Close i)) i).deciding ≡ Some (office m i).round)
+decides : (m : Model) → Fine m → (i : ℕ) → verdict m (Close i) ≡ 0 → terminating (office m i) ≡ true → closing_gives m i ≢ None →
+    (terminating (office (step m (Close i)) i) ≡ true) × ((office (step m (Close i)) i).decision ≢ None) × ((office (step m (Close i)) i).deciding ≡ Some (office m i).round)
 decides m f i ok p nd =
     let e = step_decision m f (Close i) i in (
       (step_ending m f (Close i) i p).0,
@@ -346,10 +346,10 @@ decides m f i ok p nd =
 
     go : Stepped m (Close i) i → (office (step m (Close i)) i).deciding ≡ Some (office m i).round
     go (refused e x) = absurd (clash e (eq-eqb _ _ ok))
-    go (acted e _ _ x) = ap (λ (o : Office). o.deciding) x ∙ deciding_new m (Close i) ∙ now_round (eqb i i) (office m i).terminating (closing_gives m i) (Some (office m i).round) (office m i).deciding (eq-eqb i i refl) p nd
+    go (acted e _ _ x) = ap (λ (o : Office). o.deciding) x ∙ deciding_new m (Close i) ∙ now_round (eqb i i) (terminating (office m i)) (closing_gives m i) (Some (office m i).round) (office m i).deciding (eq-eqb i i refl) p nd
     go (other e q x) = absurd (q refl)
 
-pub round_shown : (m : Model) → Fine m → (past later : List Call) (i : ℕ) → (office m i).terminating ≡ false → DecidesInTermination m past i → (office (run m (past ++ (Close i ∷ later))) i).deciding ≡ Some (suc (closings m past i))
+pub round_shown : (m : Model) → Fine m → (past later : List Call) (i : ℕ) → terminating (office m i) ≡ false → DecidesInTermination m past i → (office (run m (past ++ (Close i ∷ later))) i).deciding ≡ Some (suc (closings m past i))
 unfolding run
 round_shown m f past later i p d =
     let s = run m past in
@@ -366,7 +366,7 @@ closes_is (DropOut i) e = absurd (grind arith)
 closes_is (Notice i j) e = absurd (grind arith)
 closes_is (Join i) e = absurd (grind arith)
 
-step_none : (m : Model) → Fine m → (c : Call) (a : ℕ) → (office m a).deciding ≡ None → (c ≡ Close a → verdict m (Close a) ≡ 0 → (office m a).terminating ≡ true → closing_gives m a ≢ None → ⊥) → (office (step m c) a).deciding ≡ None
+step_none : (m : Model) → Fine m → (c : Call) (a : ℕ) → (office m a).deciding ≡ None → (c ≡ Close a → verdict m (Close a) ≡ 0 → terminating (office m a) ≡ true → closing_gives m a ≢ None → ⊥) → (office (step m c) a).deciding ≡ None
 step_none m f c a z none = go (stepped m f c a)
   where
     three : (a b : Bool) (d : Option Decision) (r old : Option ℕ) → old ≡ None → (a ≡ true → b ≡ true → d ≢ None → ⊥) → cond ((a && b) && not (undecided d)) r old ≡ None
@@ -374,12 +374,12 @@ step_none m f c a z none = go (stepped m f c a)
 
     go : Stepped m c a → (office (step m c) a).deciding ≡ None
     go (refused e x) = ap (λ (o : Office). o.deciding) x ∙ z
-    go (acted e ok p x) = ap (λ (o : Office). o.deciding) x ∙ deciding_new m c ∙ three (closes (actor c) c) (office m (actor c)).terminating (closing_gives m (actor c)) (Some (office m (actor c)).round) (office m (actor c)).deciding (ap (λ (i : ℕ). (office m i).deciding) (sym p) ∙ z)
-        (λ cl pe nd. let q : c ≡ Close a = closes_is c cl ∙ ap Close (sym p) in none q (ap (verdict m) (sym q) ∙ ok) (ap (λ (i : ℕ). (office m i).terminating) p ∙ pe) (λ y. nd (ap (closing_gives m) (sym p) ∙ y)))
+    go (acted e ok p x) = ap (λ (o : Office). o.deciding) x ∙ deciding_new m c ∙ three (closes (actor c) c) (terminating (office m (actor c))) (closing_gives m (actor c)) (Some (office m (actor c)).round) (office m (actor c)).deciding (ap (λ (i : ℕ). (office m i).deciding) (sym p) ∙ z)
+        (λ cl pe nd. let q : c ≡ Close a = closes_is c cl ∙ ap Close (sym p) in none q (ap (verdict m) (sym q) ∙ ok) (ap (λ (i : ℕ). terminating (office m i)) p ∙ pe) (λ y. nd (ap (closing_gives m) (sym p) ∙ y)))
     go (other e p x) = ap (λ (o : Office). o.deciding) x ∙ z
 
 pub round_none : (m : Model) → Fine m → (h : List Call) (a : ℕ) → (office m a).deciding ≡ None →
-    ((past later : List Call) → h ≡ past ++ (Close a ∷ later) → verdict (run m past) (Close a) ≡ 0 → (office (run m past) a).terminating ≡ true → closing_gives (run m past) a ≢ None → ⊥) → (office (run m h) a).deciding ≡ None
+    ((past later : List Call) → h ≡ past ++ (Close a ∷ later) → verdict (run m past) (Close a) ≡ 0 → terminating (office (run m past) a) ≡ true → closing_gives (run m past) a ≢ None → ⊥) → (office (run m h) a).deciding ≡ None
 unfolding run
 round_none m f [] a z never = z
 round_none m f (c ∷ h) a z never =

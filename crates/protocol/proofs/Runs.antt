@@ -18,7 +18,7 @@ use Rattle.protocol.specs.Asked.{verdict}
 use Rattle.protocol.specs.Letters.{N}
 use Rattle.protocol.specs.Model.{Model, nobody, office}
 use Rattle.protocol.specs.Openings.{Opening}
-use Rattle.protocol.specs.Records.{fresh, closed_voting, closed_termination}
+use Rattle.protocol.specs.Records.{terminating, fresh, closed_voting, closed_termination}
 use Rattle.protocol.specs.Rules.{class}
 use Rattle.protocol.specs.Steps.{heard_in, with_office, after, step, run}
 use lib.ListN.{get_or-replicate, get_or-eq_default}
@@ -41,14 +41,14 @@ unfolding steps.after-voting steps.after_ending
 fine_after m (w, g) (Vote i v) ok =
     let (li, st, v2, p, vo) = asked.vote_asked m i v ok in
     fine_office m i (eqb v 1) _ _ (λ _. (w, steps.vote_yes m w g i li p vo)) (λ _. (w, steps.vote_no m w g i li p vo))
-fine_after m (w, g) (Speak i j) ok = cond_both (office m i).terminating _ _ Fine (λ p. (w, steps.speak_ending m w g i j p ok)) (λ p. (w, steps.speak_voting m w g i j p ok))
-fine_after m (w, g) (Hear i j) ok = cond_both (office m i).terminating _ _ Fine (λ p. (w, steps.hear_ending m w g i j p ok)) (λ p. (w, steps.hear_voting m w g i j p ok))
+fine_after m (w, g) (Speak i j) ok = cond_both (terminating (office m i)) _ _ Fine (λ p. (w, steps.speak_ending m w g i j p ok)) (λ p. (w, steps.speak_voting m w g i j p ok))
+fine_after m (w, g) (Hear i j) ok = cond_both (terminating (office m i)) _ _ Fine (λ p. (w, steps.hear_ending m w g i j p ok)) (λ p. (w, steps.hear_voting m w g i j p ok))
 fine_after m (w, g) (Close i) ok =
-    fine_office m i (office m i).terminating _ _
+    fine_office m i (terminating (office m i)) _ _
     (λ p. subst (λ (r : ℕ). Fine (with_office m i (at_round (closed_termination m.n (office m i) (heard_in m.termination i (office m i).round) (heard_in m.termination i ((office m i).round - 1))) r))) (sym (steps.up_ending m w g i p ok)) (_, steps.close_ending m w g i p ok))
     (λ p. subst (λ (r : ℕ). Fine (with_office m i (at_round (closed_voting m.n i (office m i) (heard_in m.voting i (office m i).round)) r))) (sym (steps.up_voting m w g i p ok)) (w, steps.close_voting m w g i p ok))
 fine_after m (w, g) (DropOut i) ok = (w, steps.drop_out m w g i ok)
-fine_after m (w, g) (Notice i j) ok = fine_office m i (office m i).terminating _ _ (λ p. (w, steps.notice_ending m w g i j p ok)) (λ p. (_, steps.notice_voting m w g i j p ok))
+fine_after m (w, g) (Notice i j) ok = fine_office m i (terminating (office m i)) _ _ (λ p. (w, steps.notice_ending m w g i j p ok)) (λ p. (_, steps.notice_voting m w g i j p ok))
 fine_after m (w, g) (Join i) ok = (_, steps.join m w g i ok)
 
 pub fine_step : (m : Model) → Fine m → (c : Call) → Fine (step m c)
@@ -77,8 +77,8 @@ module _ (m : Model) (o : Opening m) where
   round_at : (a : ℕ) → (office m a).round ≤ 1
   round_at a = elim (fresh_at a) [ inl e ↦ rw e (omega arith) | inr e ↦ rw e (omega arith) ]
 
-  pub in_voting : (a : ℕ) → (office m a).terminating ≡ false
-  in_voting = like (λ o. o.terminating) false refl refl
+  pub in_voting : (a : ℕ) → terminating (office m a) ≡ false
+  in_voting = like terminating false refl refl
 
   no_t : (a : ℕ) → t_of (office m a) ≡ 0
   no_t = like t_of 0 refl refl

@@ -19,7 +19,7 @@ use Rattle.protocol.specs.Asked.{waiting_from, verdict}
 use Rattle.protocol.specs.Hearing.{heard, spoke}
 use Rattle.protocol.specs.Letters.{N, to_abort, to_commit}
 use Rattle.protocol.specs.Model.{Mail, Model, office, voting_rounds}
-use Rattle.protocol.specs.Records.{latest, next_round, voted_yes, voted_no, dropped_out, told_of, entered, closed_voting, closed_termination}
+use Rattle.protocol.specs.Records.{prior, terminating, word, latest, next_round, voted_yes, voted_no, dropped_out, told_of, entered, closed_voting, closed_termination}
 use Rattle.protocol.specs.Rules.{learns, class, first_word, ruling, next_word}
 use Rattle.protocol.specs.Steps.{taken, filled, heard_in, with_office, with_voting, with_termination}
 use Rattle.protocol.proofs.Updates.{at1, at2, at3, at1_is, at2_is, filled_is}
@@ -48,6 +48,9 @@ told_map f i j lt = fun_ext (λ a. fun_ext (λ b. let h = member-added (f i) j b
 abbrev pub at_round : Office → ℕ → Office
 at_round o r = record o { round = r }
 
+false_true : true ≡ false → ⊥
+false_true e = grind arith
+
 module _ (m : Model) (w : Words) (g : Good m w) where
   cover : Plan (votes m)
   cover = record { few = g.fixed.few; one = g.fixed.rounds; proper = g.fixed.proper; cover = g.fixed.covers }
@@ -68,24 +71,24 @@ module _ (m : Model) (w : Words) (g : Good m w) where
   good_termination {q} e d r = subst (λ (p : Mail TermWord). Good (with_termination m p) w) e (record { fixed = fixed_on m.voting q refl r; whole = g.whole; sound = d.0; fair = g.fair; rec = d.1 })
 
   module _ (i : ℕ) where
-    t_is : (office m i).terminating ≡ true → t_of (office m i) ≡ (office m i).round
+    t_is : terminating (office m i) ≡ true → t_of (office m i) ≡ (office m i).round
     t_is p = cond-true _ _ _ p
 
-    r_is : (office m i).terminating ≡ false → r_of (office m i) ≡ (office m i).round
+    r_is : terminating (office m i) ≡ false → r_of (office m i) ≡ (office m i).round
     r_is p = cond-false _ _ _ p
 
-    t_not : (office m i).terminating ≡ false → t_of (office m i) ≡ 0
+    t_not : terminating (office m i) ≡ false → t_of (office m i) ≡ 0
     t_not p = cond-false _ _ _ p
 
-    r_not : (office m i).terminating ≡ true → r_of (office m i) ≡ 0
+    r_not : terminating (office m i) ≡ true → r_of (office m i) ≡ 0
     r_not p = cond-true _ _ _ p
 
     -- the last round, by what i knows
-    pub last_is : i < m.n → (office m i).terminating ≡ false → voting_rounds m.h (office m i).decision ≡ v.last (votes m) i
+    pub last_is : i < m.n → terminating (office m i) ≡ false → voting_rounds m.h (office m i).decision ≡ v.last (votes m) i
     unfolding class
     last_is li p = let e = (g.rec i li).in_voting p in rw e (grind arith)
 
-    pub speak_voting : (j : ℕ) → (office m i).terminating ≡ false → verdict m (Speak i j) ≡ 0 → Good (with_voting m (filled m.voting i j (office m i).round (Waiting (office m i).knowledge))) w
+    pub speak_voting : (j : ℕ) → terminating (office m i) ≡ false → verdict m (Speak i j) ≡ 0 → Good (with_voting m (filled m.voting i j (office m i).round (Waiting (office m i).knowledge))) w
     speak_voting j p ok =
         let (li, lj, ne, st, vo, le, nm, va) = asked.speak_voting m i j p ok in
         let re = r_is p in
@@ -94,7 +97,7 @@ module _ (m : Model) (w : Words) (g : Good m w) where
         good_voting (filled_is m.voting i j (office m i).round (Waiting (office m i).knowledge)) refl
         (subst (λ (k : ℕ). Fair (votes_of m.n m.h m.names (record m.voting { places = at3 m.voting.places i j k (Waiting (office m i).knowledge) }) (office m))) re (fair_kept (votes m) g.fair cover (v.say i j) can))
 
-    pub hear_voting : (j : ℕ) → (office m i).terminating ≡ false → verdict m (Hear i j) ≡ 0 → Good (with_voting m (filled m.voting j i (office m i).round (taken (m.voting.places j i (office m i).round)))) w
+    pub hear_voting : (j : ℕ) → terminating (office m i) ≡ false → verdict m (Hear i j) ≡ 0 → Good (with_voting m (filled m.voting j i (office m i).round (taken (m.voting.places j i (office m i).round)))) w
     hear_voting j p ok =
         let (li, lj, ne, st) = asked.hear_asked m i j ok in
         let re = r_is p in
@@ -109,7 +112,7 @@ module _ (m : Model) (w : Words) (g : Good m w) where
     stands : (j : ℕ) → (office m j).standing ≡ true → not (office m j).standing ≡ false
     stands j e = ap not e
 
-    pub speak_ending : (j : ℕ) → (office m i).terminating ≡ true → verdict m (Speak i j) ≡ 0 → Good (with_termination m (filled m.termination i j (office m i).round (Waiting (office m i).word))) w
+    pub speak_ending : (j : ℕ) → terminating (office m i) ≡ true → verdict m (Speak i j) ≡ 0 → Good (with_termination m (filled m.termination i j (office m i).round (Waiting (word (office m i))))) w
     speak_ending j p ok =
         let (li, lj, ne, st, r1, rr, va) = asked.speak_ending m i j p ok in
         let te = t_is p in
@@ -117,9 +120,9 @@ module _ (m : Model) (w : Words) (g : Good m w) where
         let d = deed (speak i j) may in
         let d1 = subst (λ (k : ℕ). All (net_of m.n (record m.termination { places = at3 m.termination.places i j k (Waiting (w i k)) }) w (office m)) (office m)) te d in
         let d2 = subst (λ (x : TermWord). All (net_of m.n (record m.termination { places = at3 m.termination.places i j (office m i).round (Waiting x) }) w (office m)) (office m)) (sym ((g.rec i li).word_now p)) d1 in
-        good_termination (filled_is m.termination i j (office m i).round (Waiting (office m i).word)) d2 refl
+        good_termination (filled_is m.termination i j (office m i).round (Waiting (word (office m i)))) d2 refl
 
-    pub hear_ending : (j : ℕ) → (office m i).terminating ≡ true → verdict m (Hear i j) ≡ 0 → Good (with_termination m (filled m.termination j i (office m i).round (taken (m.termination.places j i (office m i).round)))) w
+    pub hear_ending : (j : ℕ) → terminating (office m i) ≡ true → verdict m (Hear i j) ≡ 0 → Good (with_termination m (filled m.termination j i (office m i).round (taken (m.termination.places j i (office m i).round)))) w
     hear_ending j p ok =
         let (li, lj, ne, st) = asked.hear_asked m i j ok in
         let te = t_is p in
@@ -166,7 +169,7 @@ module _ (m : Model) (w : Words) (g : Good m w) where
     unfolding class
     no-class k a = grind (arith, nat_tests)
 
-    pub vote_yes : i < m.n → (office m i).terminating ≡ false → (office m i).voted ≡ false → Good (with_office m i (voted_yes (office m i) i)) w
+    pub vote_yes : i < m.n → terminating (office m i) ≡ false → (office m i).voted ≡ false → Good (with_office m i (voted_yes (office m i) i)) w
     vote_yes li p vo =
         let o = office m i in
         let (kn, _) = g.fair.blank i vo in
@@ -188,10 +191,10 @@ module _ (m : Model) (w : Words) (g : Good m w) where
         keep_net (voted_yes o i) li refl refl refl rec'
         (subst Fair (sym (votes_eq m.n m.h m.names m.voting.places _ _ _ _ _ _ (at1_map (λ o. o.knowledge) (office m) i (voted_yes o i)) (at1_map (λ o. o.voted) (office m) i (voted_yes o i)) (at1_id r_of (office m) i (voted_yes o i) refl))) f)
       where
-        both : (office m i).terminating ≡ true → (office m i).terminating ≡ false → ⊥
+        both : terminating (office m i) ≡ true → terminating (office m i) ≡ false → ⊥
         both a b = grind arith
 
-    pub vote_no : i < m.n → (office m i).terminating ≡ false → (office m i).voted ≡ false → Good (with_office m i (voted_no (office m i) i)) w
+    pub vote_no : i < m.n → terminating (office m i) ≡ false → (office m i).voted ≡ false → Good (with_office m i (voted_no (office m i) i)) w
     vote_no li p vo =
         let o = office m i in
         let r = g.rec i li in
@@ -212,14 +215,14 @@ module _ (m : Model) (w : Words) (g : Good m w) where
         keep_net (voted_no o i) li refl refl refl rec'
         (subst Fair (sym (votes_eq m.n m.h m.names m.voting.places _ _ _ _ _ _ (at1_map (λ o. o.knowledge) (office m) i (voted_no o i)) (at1_map (λ o. o.voted) (office m) i (voted_no o i)) (at1_id r_of (office m) i (voted_no o i) refl))) f)
       where
-        both : (office m i).terminating ≡ true → (office m i).terminating ≡ false → ⊥
+        both : terminating (office m i) ≡ true → terminating (office m i) ≡ false → ⊥
         both a b = grind arith
 
     -- what i knows once it closed its voting round
     unfoldable pub after-closing : Knowledge
     after-closing = learns m.n i (office m i).knowledge (heard_in m.voting i (office m i).round)
 
-    pub after_is : (office m i).terminating ≡ false → after-closing ≡ v.closed_known (votes m) i
+    pub after_is : terminating (office m i) ≡ false → after-closing ≡ v.closed_known (votes m) i
     unfolding after-closing
     after_is p = ap (λ (k : ℕ). learns m.n i (office m i).knowledge (heard_in m.voting i k)) (sym (r_is p))
 
@@ -227,7 +230,7 @@ module _ (m : Model) (w : Words) (g : Good m w) where
     unfolding class
     ruling_back n k k' a b e = grind (arith, nat_tests)
 
-    pub closing_keeps : (office m i).terminating ≡ false → decision_of (class m.n after-closing) ≡ None → decision_of (class m.n (office m i).knowledge) ≡ None
+    pub closing_keeps : terminating (office m i) ≡ false → decision_of (class m.n after-closing) ≡ None → decision_of (class m.n (office m i).knowledge) ≡ None
     closing_keeps p e = ruling_back m.n (office m i).knowledge (v.closed_known (votes m) i) (none_before (votes m) i)
         (λ f. full_from m.n _ (λ l ll. (own_counts (votes m) i l).2 (full_at m.n _ f l ll))) (ap (λ k. decision_of (class m.n k)) (sym (after_is p)) ∙ e)
 
@@ -237,7 +240,7 @@ module _ (m : Model) (w : Words) (g : Good m w) where
     unfoldable pub after-voting : Office
     after-voting = at_round (closed_voting m.n i (office m i) (heard_in m.voting i (office m i).round)) (suc (office m i).round)
 
-    pub close_voting : (office m i).terminating ≡ false → verdict m (Close i) ≡ 0 → Good (with_office m i after-voting) w
+    pub close_voting : terminating (office m i) ≡ false → verdict m (Close i) ≡ 0 → Good (with_office m i after-voting) w
     unfolding after-voting after-closing
     close_voting p ok =
         let o = office m i in
@@ -272,7 +275,7 @@ module _ (m : Model) (w : Words) (g : Good m w) where
         (at1_id (λ o. o.voted) (office m) i after-voting refl)
         (at1_map r_of (office m) i after-voting ∙ ap (at1 (λ a. r_of (office m a)) i) (cond-false _ _ _ p ∙ ap suc (sym re))))) f)
       where
-        both : (office m i).terminating ≡ true → (office m i).terminating ≡ false → ⊥
+        both : terminating (office m i) ≡ true → terminating (office m i) ≡ false → ⊥
         both a b = grind arith
 
     pub drop_out : verdict m (DropOut i) ≡ 0 → Good (with_office m i (dropped_out (office m i))) w
@@ -293,7 +296,7 @@ module _ (m : Model) (w : Words) (g : Good m w) where
     unfolding waits_for waiting_from
     notice_may j ok = let (li, lj, ne, st, so, to, qu) = asked.notice_asked m i j ok in ((li, lj, ne, stands i st), ap not so, to, qu)
 
-    pub notice_ending : (j : ℕ) → (office m i).terminating ≡ true → verdict m (Notice i j) ≡ 0 → Good (with_office m i (told_of (office m i) j)) w
+    pub notice_ending : (j : ℕ) → terminating (office m i) ≡ true → verdict m (Notice i j) ≡ 0 → Good (with_office m i (told_of (office m i) j)) w
     notice_ending j p ok =
         let o = office m i in
         let may = notice_may j ok in
@@ -305,7 +308,7 @@ module _ (m : Model) (w : Words) (g : Good m w) where
         good_office m w w i (told_of o j) g li (subst Sound (sym e) d.0) (same-votes (told_of o j) refl refl refl)
         (subst (λ (s : Net). (a : ℕ) → a < m.n → Rec s a (at1 (office m) i (told_of o j) a)) (sym e) (rec_at (does (net m w) (notice i j)) (told_of o j) refl d.1 rec'))
       where
-        both : (office m i).terminating ≡ true → (office m i).terminating ≡ false → ⊥
+        both : terminating (office m i) ≡ true → terminating (office m i) ≡ false → ⊥
         both a b = grind arith
 
     pub enter_word : TermWord
@@ -327,9 +330,6 @@ module _ (m : Model) (w : Words) (g : Good m w) where
         at_one : (does s (enter i x)).word i 1 ≡ x
         at_one = grind (arith, at2_is)
 
-        false_true : true ≡ false → ⊥
-        false_true e = grind arith
-
     join_may : verdict m (Join i) ≡ 0 → May (net m w) (enter i enter_word)
     unfolding waits_for waiting_from
     join_may ok =
@@ -337,7 +337,7 @@ module _ (m : Model) (w : Words) (g : Good m w) where
         let (j, lj, x) = some_at m.n (λ j. waiting_from m.termination j i) wa in
         (li, stands i st, t_not p, (j, lj, inr x))
 
-    left : (o : Office) → o.knowledge ≡ (office m i).knowledge → o.voted ≡ (office m i).voted → o.terminating ≡ true → i < m.n → Fair (votes_of m.n m.h m.names m.voting (at1 (office m) i o))
+    left : (o : Office) → o.knowledge ≡ (office m i).knowledge → o.voted ≡ (office m i).voted → terminating o ≡ true → i < m.n → Fair (votes_of m.n m.h m.names m.voting (at1 (office m) i o))
     left o e1 e2 e3 li =
         subst Fair (sym (votes_eq m.n m.h m.names m.voting.places _ _ _ _ _ _ (at1_id (λ o. o.knowledge) (office m) i o e1) (at1_id (λ o. o.voted) (office m) i o e2) (at1_map r_of (office m) i o ∙ ap (at1 (λ a. r_of (office m a)) i) (cond-true _ _ _ e3))))
         (fair_kept (votes m) g.fair cover (v.leave i) li)
@@ -355,7 +355,7 @@ module _ (m : Model) (w : Words) (g : Good m w) where
         (subst (λ (s : Net). (a : ℕ) → a < m.n → Rec s a (at1 (office m) i (entered m.n o) a)) (sym e)
         (rec_at (does (net m w) (enter i enter_word)) (entered m.n o) refl d.1 (enter_rec (net m w) o refl (g.sound.zeroth i) ((g.rec i li).in_voting p) enter_word refl may)))
 
-    pub notice_voting : (j : ℕ) → (office m i).terminating ≡ false → verdict m (Notice i j) ≡ 0 → Good (with_office m i (entered m.n (told_of (office m i) j))) (word_after (net m w) (enter i enter_word))
+    pub notice_voting : (j : ℕ) → terminating (office m i) ≡ false → verdict m (Notice i j) ≡ 0 → Good (with_office m i (entered m.n (told_of (office m i) j))) (word_after (net m w) (enter i enter_word))
     unfolding enter_word
     notice_voting j p ok =
         let o : Office = told_of (office m i) j in
@@ -382,7 +382,7 @@ module _ (m : Model) (w : Words) (g : Good m w) where
     unfoldable pub after_ending : Office
     after_ending = at_round (closed_termination m.n (office m i) (heard_in m.termination i (office m i).round) (heard_in m.termination i ((office m i).round - 1))) (suc (office m i).round)
 
-    close_may : (office m i).terminating ≡ true → verdict m (Close i) ≡ 0 → May (net m w) (close i)
+    close_may : terminating (office m i) ≡ true → verdict m (Close i) ≡ 0 → May (net m w) (close i)
     close_may p ok =
         let (li, st, e1, e2) = asked.close_asked m i ok in
         let from = (g.rec i li).from in
@@ -393,21 +393,21 @@ module _ (m : Model) (w : Words) (g : Good m w) where
         done a b p q x y = grind arith
 
     -- the rule by which i closes, in the words of the termination
-    fate_is : i < m.n → (office m i).terminating ≡ true → fate_at (net m w) i (t_of (office m i)) ≡ ruling m.n (office m i).round (office m i).word (heard_in m.termination i (office m i).round) (office m i).prior (heard_in m.termination i ((office m i).round - 1))
+    fate_is : i < m.n → terminating (office m i) ≡ true → fate_at (net m w) i (t_of (office m i)) ≡ ruling m.n (office m i).round (word (office m i)) (heard_in m.termination i (office m i).round) (prior (office m i)) (heard_in m.termination i ((office m i).round - 1))
     fate_is li p = ap (fate_at (net m w) i) (t_is p)
         ∙ ap (λ x. ruling m.n (office m i).round x (heard_in m.termination i (office m i).round) (w i ((office m i).round - 1)) (heard_in m.termination i ((office m i).round - 1))) (sym ((g.rec i li).word_now p))
-        ∙ ap (λ x. ruling m.n (office m i).round (office m i).word (heard_in m.termination i (office m i).round) x (heard_in m.termination i ((office m i).round - 1))) (sym ((g.rec i li).prior_now p))
+        ∙ ap (λ x. ruling m.n (office m i).round (word (office m i)) (heard_in m.termination i (office m i).round) x (heard_in m.termination i ((office m i).round - 1))) (sym ((g.rec i li).prior_now p))
 
-    next_is : i < m.n → (office m i).terminating ≡ true → word_after (net m w) (close i) i (suc (office m i).round) ≡ next_word m.n (office m i).round (office m i).word (heard_in m.termination i (office m i).round) (office m i).prior (heard_in m.termination i ((office m i).round - 1))
+    next_is : i < m.n → terminating (office m i) ≡ true → word_after (net m w) (close i) i (suc (office m i).round) ≡ next_word m.n (office m i).round (word (office m i)) (heard_in m.termination i (office m i).round) (prior (office m i)) (heard_in m.termination i ((office m i).round - 1))
     next_is li p = ap (λ (k : ℕ). word_after (net m w) (close i) i (suc k)) (sym (t_is p)) ∙ made (net m w) i
         ∙ ap (λ (k : ℕ). next_word m.n k (w i k) (heard_in m.termination i k) (w i (k - 1)) (heard_in m.termination i (k - 1))) (t_is p)
         ∙ ap (λ x. next_word m.n (office m i).round x (heard_in m.termination i (office m i).round) (w i ((office m i).round - 1)) (heard_in m.termination i ((office m i).round - 1))) (sym ((g.rec i li).word_now p))
-        ∙ ap (λ x. next_word m.n (office m i).round (office m i).word (heard_in m.termination i (office m i).round) x (heard_in m.termination i ((office m i).round - 1))) (sym ((g.rec i li).prior_now p))
+        ∙ ap (λ x. next_word m.n (office m i).round (word (office m i)) (heard_in m.termination i (office m i).round) x (heard_in m.termination i ((office m i).round - 1))) (sym ((g.rec i li).prior_now p))
 
     no_rule : (a b c : Bool) → cond a to_abort (cond b to_commit (cond c to_abort None)) ≡ None → (a ≡ false) × (b ≡ false) × (c ≡ false)
     no_rule a b c e = grind arith
 
-    close_rec : (office m i).terminating ≡ true → verdict m (Close i) ≡ 0 → Rec (does (net m w) (close i)) i after_ending
+    close_rec : terminating (office m i) ≡ true → verdict m (Close i) ≡ 0 → Rec (does (net m w) (close i)) i after_ending
     unfolding after_ending
     close_rec p ok =
         let o = office m i in
@@ -419,7 +419,7 @@ module _ (m : Model) (w : Words) (g : Good m w) where
         let from = r.from in
         let back : o.round ≡ suc o.round - 1 = omega arith in
         let (lim, fs) = r.still_open p (asked.close_ending m i p ok) in
-        let f : Option Decision = ruling m.n o.round o.word (heard_in m.termination i o.round) o.prior (heard_in m.termination i (o.round - 1)) in
+        let f : Option Decision = ruling m.n o.round (word o) (heard_in m.termination i o.round) (prior o) (heard_in m.termination i (o.round - 1)) in
         let now-fate : fate_at (does s (close i)) i o.round ≡ f = sym (fate_kept s (close i) i o.round may (omega arith) (inr refl) (inr refl)) ∙ ap (fate_at s i) (sym te) ∙ fate_is li p in
         let old : (k : ℕ) → 1 ≤ k → k < o.round → fate_at (does s (close i)) i k ≡ None = λ k k1 lt. sym (fate_kept s (close i) i k may (omega arith) (inr refl) (inr refl)) ∙ fs k k1 lt in
         record {
@@ -427,8 +427,8 @@ module _ (m : Model) (w : Words) (g : Good m w) where
           prior_now = λ _. r.word_now p ∙ word_kept s (close i) i o.round may (omega arith) ∙ ap ((does s (close i)).word i) back;
           first = λ _. sym (word_kept s (close i) i 1 may (omega arith)) ∙ r.first p;
           from = omega arith;
-          untold = λ e. absurd (both p e);
-          in_voting = λ e. absurd (both p e);
+          untold = λ e. absurd (false_true e);
+          in_voting = λ e. absurd (false_true e);
           still_open = λ _ u.
               let fu : f ≡ None = later_open f o.decision u in
               let (n1, n2, n3) = no_rule _ _ _ (fate_is li p ∙ fu) in
@@ -439,16 +439,13 @@ module _ (m : Model) (w : Words) (g : Good m w) where
               inr (o.round, from, refl, decided f o.decision fu ∙ sym now-fate);
         }
       where
-        both : (office m i).terminating ≡ true → (office m i).terminating ≡ false → ⊥
-        both a b = grind arith
-
         later_open : (d e : Option Decision) → latest d e ≡ None → d ≡ None
         later_open d e q = grind arith
 
         decided : (d e : Option Decision) → d ≢ None → latest d e ≡ d
         decided d e q = grind arith
 
-    pub close_ending : (office m i).terminating ≡ true → verdict m (Close i) ≡ 0 → Good (with_office m i after_ending) (word_after (net m w) (close i))
+    pub close_ending : terminating (office m i) ≡ true → verdict m (Close i) ≡ 0 → Good (with_office m i after_ending) (word_after (net m w) (close i))
     unfolding after_ending
     close_ending p ok =
         let o = office m i in
@@ -461,23 +458,23 @@ module _ (m : Model) (w : Words) (g : Good m w) where
         (subst (λ (s : Net). (a : ℕ) → a < m.n → Rec s a (at1 (office m) i after_ending a)) (sym e)
         (rec_at (does (net m w) (close i)) after_ending refl d.1 (close_rec p ok)))
       where
-        t_closed : (office m i).terminating ≡ true → t_of after_ending ≡ suc (t_of (office m i))
-        t_closed p = cond-true _ _ _ p ∙ ap suc (sym (t_is p))
+        t_closed : terminating (office m i) ≡ true → t_of after_ending ≡ suc (t_of (office m i))
+        t_closed p = ap suc (sym (t_is p))
 
-        r_closed : (office m i).terminating ≡ true → r_of after_ending ≡ r_of (office m i)
-        r_closed p = cond-true _ _ _ p ∙ sym (r_not p)
+        r_closed : terminating (office m i) ≡ true → r_of after_ending ≡ r_of (office m i)
+        r_closed p = sym (r_not p)
 
     -- the round stays a byte
     up_is : (r : ℕ) → r < 255 → next_round r ≡ suc r
     up_is r lt = omega arith
 
-    pub up_voting : (office m i).terminating ≡ false → verdict m (Close i) ≡ 0 → next_round (office m i).round ≡ suc (office m i).round
+    pub up_voting : terminating (office m i) ≡ false → verdict m (Close i) ≡ 0 → next_round (office m i).round ≡ suc (office m i).round
     up_voting p ok = let (_, le) = asked.close_voting m i p ok in let h = g.fixed.short in up_is (office m i).round (low m.h (office m i).round (office m i).decision h le)
       where
         low : (h r : ℕ) (d : Option Decision) → h ≤ 16 → r ≤ voting_rounds h d → r < 255
         low h r d a b = grind arith
 
-    pub up_ending : (office m i).terminating ≡ true → verdict m (Close i) ≡ 0 → next_round (office m i).round ≡ suc (office m i).round
+    pub up_ending : terminating (office m i) ≡ true → verdict m (Close i) ≡ 0 → next_round (office m i).round ≡ suc (office m i).round
     up_ending p ok =
         let li = (asked.close_asked m i ok).0 in
         let (lim, _) = (g.rec i li).still_open p (asked.close_ending m i p ok) in

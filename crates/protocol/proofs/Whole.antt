@@ -18,6 +18,7 @@ use Rattle.protocol.proofs.Runs.{Fine}
 use Rattle.protocol.proofs.Decided as decided
 use Rattle.protocol.proofs.Deadlock as deadlock
 use Rattle.protocol.proofs.History as history
+use Rattle.protocol.specs.Records.{terminating}
 
 clash : {b : Bool} → b ≡ true → b ≡ false → ⊥
 clash p q = grind arith
@@ -46,7 +47,7 @@ module _ (m : Model) (o : Opening m) where
     stood : (i : ℕ) → i < m.n → (office (run m h) i).standing ≡ not (dropped m h i)
     stood i li = history.standing_shown m open_fine h i ∙ ap (λ b. b && not (dropped m h i)) (runs.standing_at m o i li)
 
-    phase : (i : ℕ) → (office (run m h) i).terminating ≡ entered m h i
+    phase : (i : ℕ) → terminating (office (run m h) i) ≡ entered m h i
     phase i = history.in_termination m open_fine h i (runs.in_voting m o i)
 
     in_run : (i : ℕ) → i < m.n → i < (run m h).n

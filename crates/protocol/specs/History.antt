@@ -7,7 +7,7 @@ use Rattle.protocol.specs.declared.call.Call.TheVariants.{Vote, Close, DropOut, 
 use Rattle.protocol.specs.Asked.{verdict}
 use Rattle.protocol.specs.Letters.{to_abort}
 use Rattle.protocol.specs.Model.{Model, office}
-use Rattle.protocol.specs.Records.{latest}
+use Rattle.protocol.specs.Records.{prior, terminating, word, latest}
 use Rattle.protocol.specs.Rules.{learns, class, ruling}
 use Rattle.protocol.specs.Steps.{heard_in, step, run}
 
@@ -79,8 +79,8 @@ closings m h i = closings_since m false h i
 -- the decision that a closing of office i gives: in the termination by the rules, in voting by the class that it leaves
 abbrev pub closing_gives : Model → ℕ → Option Decision
 closing_gives m i = let o = office m i in
-    cond o.terminating
-    (ruling m.n o.round o.word (heard_in m.termination i o.round) o.prior (heard_in m.termination i (o.round - 1)))
+    cond (terminating o)
+    (ruling m.n o.round (word o) (heard_in m.termination i o.round) (prior o) (heard_in m.termination i (o.round - 1)))
     (decision_of (class m.n (learns m.n i o.knowledge (heard_in m.voting i o.round))))
 
 -- the decision that a call gives office i: a vote 0 gives abort, a closing what it gives, and no other call gives one
