@@ -1,7 +1,7 @@
 -- No deadlock, in one state. Assumes nothing.
 use Rattle.std.proofs.Common.{◌≡◌, ℕ, zero, suc, ◌+◌, ◌-◌, ◌<◌, ◌≤◌, Bool, true, false, cond, not, ◌&&◌, ◌||◌, eqb, ◌≢◌, ◌⊎◌, None, Option, sym, refl, ap, ◌∙◌, subst, inl, inr, arith}
 use Rattle.std.proofs.lemmas.Bool.Decides.{nat_tests}
-use Rattle.std.proofs.lemmas.Bool.{cases_eq, cases_lt, cases_Bool, cond-true, cond-false, eqb-false, le-leb, and_from, or_cases}
+use Rattle.std.proofs.lemmas.Bool.{both_ways, not-true, cases_eq, cases_lt, cases_Bool, cond-true, cond-false, eqb-false, le-leb, and_from, or_cases}
 use Rattle.words.specs.declared.knowledge.Class.{Class}
 use Rattle.words.specs.declared.knowledge.Decision.{Decision}
 use Rattle.words.specs.declared.knowledge.Knowledge.{Knowledge}
@@ -49,9 +49,6 @@ some_rule a b c e = grind arith
 
 decided_class : (c : Class) → decision_of c ≢ None → (first_word c ≡ A) ⊎ (decision_of c ≡ to_commit)
 decided_class c e = grind arith
-
-clash : {b : Bool} → b ≡ true → b ≡ false → ⊥
-clash p q = grind arith
 
 open_or : (d : Option Decision) → (d ≡ None) ⊎ (d ≢ None)
 open_or d = elim (cases_Bool (undecided d)) [ inl e ↦ inl (is d e) | inr e ↦ inr (is_not d e) ]
@@ -137,7 +134,7 @@ module _ (m : Model) (w : ℕ → ℕ → TermWord) (g : Good m w) (stuck : (c :
   few = g.fixed.few
 
   gone : (j : ℕ) → not (office m j).standing ≡ true → (office m j).standing ≡ true → ⊥
-  gone j a b = grind arith
+  gone j a b = both_ways _ (not-true _ a) b
 
   voted_all : (i : ℕ) → i < m.n → (office m i).standing ≡ true → terminating (office m i) ≡ false → (office m i).voted ≡ true
   voted_all i li st p = elim (cases_Bool (office m i).voted) [ inl e ↦ e | inr e ↦ absurd (stuck (Vote i 1) refl (accepts.vote_ok m few i li st p e)) ]
@@ -147,7 +144,7 @@ module _ (m : Model) (w : ℕ → ℕ → TermWord) (g : Good m w) (stuck : (c :
   has_entered d ld so i li st = elim (cases_Bool (terminating (office m i))) [
     | inl p ↦ p
     | inr p ↦ absurd (elim (cases_Bool (waiting_from m.termination d i)) [
-      | inr q ↦ stuck (Notice i d) refl (accepts.notice_ok m few i li st d ld (λ e. clash st (ap (λ (z : ℕ). (office m z).standing) e ∙ so)) so ((g.rec i li).untold p d) q)
+      | inr q ↦ stuck (Notice i d) refl (accepts.notice_ok m few i li st d ld (λ e. both_ways _ (ap (λ (z : ℕ). (office m z).standing) e ∙ so) st) so ((g.rec i li).untold p d) q)
       | inl q ↦ stuck (Join i) refl (accepts.join_ok m few i li st p (some-from m.n (λ j. waiting_from m.termination j i) d ld q))
     ])
   ]
@@ -184,7 +181,7 @@ module _ (m : Model) (w : ℕ → ℕ → TermWord) (g : Good m w) (stuck : (c :
         let none : (fits1 s i (office m j).round ≡ false) × (fits2 s i (office m j).round ≡ false) = no_rule (fits1 s i (office m j).round) (fits2 s i (office m j).round) (fits3 s i (office m j).round) (fs (office m j).round from lt) in
         let ne : i ≢ j = λ e. lower i j e lt in
         let told-j : spoke (heard (m.termination.places j i (office m j).round)) ≡ true = took_j s (office m j).round i j (g.sound.closed i j (office m j).round from (omega arith) lj ne) (λ q. gone j (g.sound.gone i j q) stj) in
-        let not_A : s.word j (office m j).round ≢ A = λ a. clash (hears_A s i j (office m j).round lj (g.sound.own j i (office m j).round) told-j a) none.0 in
+        let not_A : s.word j (office m j).round ≢ A = λ a. both_ways _ none.0 (hears_A s i j (office m j).round lj (g.sound.own j i (office m j).round) told-j a) in
         elim (r.shut pj de) [
           | inl (r1, e) ↦ elim (decided_class (class m.n (office m j).knowledge) (λ q. de (e ∙ q))) [
             | inl a ↦ not_A (ap (s.word j) r1 ∙ r.first pj ∙ a)
@@ -222,7 +219,7 @@ module _ (m : Model) (w : ℕ → ℕ → TermWord) (g : Good m w) (stuck : (c :
             let ti = t_is i li st in
             let kt = own_low (net m w) j i k (g.sound.own j i k) (not_vacant (m.termination.places j i k) wa) in
             elim (cases_lt k (office m i).round) [
-              | inl lt ↦ absurd (taken_not (m.termination.places j i k) (took_j (net m w) k i j (g.sound.closed i j k k1 (omega arith) lj ne) (λ q. clash q nt)) wa)
+              | inl lt ↦ absurd (taken_not (m.termination.places j i k) (took_j (net m w) k i j (g.sound.closed i j k k1 (omega arith) lj ne) (λ q. both_ways _ nt q)) wa)
               | inr ge ↦ elim (cases_eq k (office m i).round) [
                 | inl e ↦ ap (λ (z : ℕ). vacant (m.termination.places j i z)) (sym e) ∙ not_empty (m.termination.places j i k) wa
                 | inr nk ↦ spoke_before j i (office m i).round li st r1 (omega arith) (λ e. ne (sym e))

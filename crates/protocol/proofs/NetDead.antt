@@ -1,6 +1,6 @@
 -- What a decided office that stands makes of the others. Assumes nothing.
-use Rattle.std.proofs.Common.{◌≡◌, ℕ, suc, ◌<◌, ◌≤◌, Bool, true, false, ◌≢◌, sym, ap, ◌∙◌, inl, inr, arith}
-use Rattle.std.proofs.lemmas.Bool.{cases_eq}
+use Rattle.std.proofs.Common.{◌≡◌, ℕ, suc, ◌<◌, ◌≤◌, true, false, ◌≢◌, sym, ap, ◌∙◌, inl, inr, arith}
+use Rattle.std.proofs.lemmas.Bool.{both_ways, cases_eq}
 use Rattle.words.specs.declared.term.TermWord.{TermWord}
 use Rattle.protocol.specs.Hearing.{heard, spoke}
 use Rattle.protocol.specs.Letters.{N, C, A}
@@ -15,11 +15,8 @@ pub none-N : (s : Net) → Sound s → (i k : ℕ) → i < s.n → k ≤ s.t i �
 none-N s h i k li ki nn r1 r2 = elim (three (sum_of s i k)) [
   | inl e ↦ nn i li ki (own_N s i k e)
   | inr (inl e) ↦ let (x, lx, kx, wx) = N-from s h i k li ki e r2 in nn x lx kx wx
-  | inr (inr e) ↦ clash (A_fits1 s i k e) r1
+  | inr (inr e) ↦ both_ways _ r1 (A_fits1 s i k e)
 ]
-  where
-    clash : {b : Bool} → b ≡ true → b ≡ false → ⊥
-    clash p q = grind arith
 
 -- an A that was taken is heard
 pub hears_A : (s : Net) (i j k : ℕ) → j < s.n → Own s j i k → spoke (heard (s.place j i k)) ≡ true → s.word j k ≡ A → fits1 s i k ≡ true

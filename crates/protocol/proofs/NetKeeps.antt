@@ -1,8 +1,8 @@
 -- Each deed keeps what Sound says. Assumes nothing.
-use Rattle.std.proofs.Common.{◌≡◌, ℕ, suc, ◌+◌, ◌-◌, ◌<◌, ◌≤◌, Bool, true, false, ◌≢◌, ◌⊎◌, sym, refl, ap, ◌∙◌, inl, inr, arith}
+use Rattle.std.proofs.Common.{◌≡◌, ℕ, suc, ◌+◌, ◌-◌, ◌<◌, ◌≤◌, true, false, ◌≢◌, ◌⊎◌, sym, refl, ap, ◌∙◌, inl, inr, arith}
 use mathlib.Core.Path.{fun_ext}
 use Rattle.std.proofs.lemmas.Bool.Decides.{nat_tests}
-use Rattle.std.proofs.lemmas.Bool.{cases_eq, cases_Bool}
+use Rattle.std.proofs.lemmas.Bool.{both_ways, cases_eq, cases_Bool}
 use Rattle.posts.specs.Places.{waits}
 use Rattle.protocol.specs.History.{count}
 use Rattle.protocol.specs.Letters.{N}
@@ -48,14 +48,11 @@ quiet_at s i j k h o = elim (cases_Bool (waits (s.place j i k))) [
   | inl e ↦
       let (k1, kr) = inside s j i k o e in
       let q : k - 1 + 1 ≡ k = omega arith in
-      absurd (clash (some-from s.reach (λ r. waits (s.place j i (r + 1))) (k - 1) (omega arith) (ap (λ (z : ℕ). waits (s.place j i z)) q ∙ e)) h)
+      absurd (both_ways _ h (some-from s.reach (λ r. waits (s.place j i (r + 1))) (k - 1) (omega arith) (ap (λ (z : ℕ). waits (s.place j i z)) q ∙ e)))
 ]
   where
     inside : (s : Net) (a b k : ℕ) → Own s a b k → waits (s.place a b k) ≡ true → (1 ≤ k) × (k ≤ s.reach)
     inside s a b k o e = grind arith
-
-    clash : {b : Bool} → b ≡ true → b ≡ false → ⊥
-    clash p q = grind arith
 
 quiet_kept : (s : Net) (c : Deed) (i j k : ℕ) → May s c → Own s j i k → (s.told i j ≡ true → s.dropped j ≡ true) → (s.told i j ≡ true → waits (s.place j i k) ≡ false) → (does s c).told i j ≡ true → waits ((does s c).place j i k) ≡ false
 quiet_kept s (speak x y) i j k ok o g h to = grind kept

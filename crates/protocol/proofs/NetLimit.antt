@@ -2,7 +2,7 @@
 use Rattle.std.proofs.Common.{◌≡◌, ℕ, zero, suc, ◌-◌, ◌<◌, ◌≤◌, Bool, true, false, not, ◌&&◌, eqb, ltb, ◌≢◌, Some, Option, sym, ◌∙◌, inl, inr, arith}
 use mathlib.Core.Bool.{beq}
 use Rattle.std.proofs.lemmas.Bool.Decides.{nat_tests}
-use Rattle.std.proofs.lemmas.Bool.{cases_lt}
+use Rattle.std.proofs.lemmas.Bool.{both_ways, cases_lt}
 use Rattle.words.specs.declared.term.TermWord.{TermWord}
 use Rattle.words.specs.Terms.{higher}
 use Rattle.posts.specs.Places.{waits}
@@ -181,11 +181,8 @@ bounded s h i v r1 r2 r3 =
           let a = mixed s h c (s.t i) x y lx ly v.from kx ky wx wy in
           let b = count_le s.n (out s (s.t i)) s.dropped (λ l ll q. grind arith) in
           omega arith
-      | inr (inr e) ↦ absurd (clash (A_fits1 s i (s.t i) e) r1)
+      | inr (inr e) ↦ absurd (both_ways _ r1 (A_fits1 s i (s.t i) e))
     ]
   where
-    clash : {b : Bool} → b ≡ true → b ≡ false → ⊥
-    clash p q = grind arith
-
     told_out : (s : Net) (i l : ℕ) → done_with s i l ≡ true → unheard s i (s.t i) l ≡ true → (s.told i l ≡ true → s.dropped l ≡ true) → s.dropped l ≡ true
     told_out s i l d u g = grind (arith, nat_tests)

@@ -1,7 +1,7 @@
 -- What the rules of the termination say of the sum of the words. Assumes nothing.
 use Rattle.std.proofs.Common.{◌≡◌, ℕ, ◌<◌, ◌≤◌, Bool, true, false, cond, ◌&&◌, leb, ◌≢◌, ◌⊎◌, Option, sym, ◌∙◌, inl, inr, arith}
 use mathlib.Core.Bool.{beq}
-use Rattle.std.proofs.lemmas.Bool.{cases_Bool, or_cases, or_left, or_right, and_parts, and_from}
+use Rattle.std.proofs.lemmas.Bool.{both_ways, cases_Bool, or_cases, or_left, or_right, and_parts, and_from}
 use Rattle.std.proofs.lemmas.Bool.Decides.{nat_tests}
 use Rattle.words.specs.declared.term.TermWord.{TermWord}
 use Rattle.words.specs.Below.{every, some}
@@ -71,14 +71,11 @@ module _ (n : ℕ) (own : TermWord) (q : Heard TermWord) where
   unfolding all_are
   not_all w e = elim (cases_Bool (same_term own w)) [
     | inl a ↦ inr (every_not n (λ l. only w (q l)) (right (same_term own w) (every n (λ l. only w (q l))) a e))
-    | inr b ↦ inl (λ s. clash (same_from own w s) b)
+    | inr b ↦ inl (λ s. both_ways _ b (same_from own w s))
   ]
     where
       right : (a b : Bool) → a ≡ true → (a && b) ≡ false → b ≡ false
       right a b p q = grind arith
-
-      clash : {b : Bool} → b ≡ true → b ≡ false → ⊥
-      clash p q = grind arith
 
 -- what rule 3 asks
 pub record Three (n k : ℕ) (own : TermWord) (q : Heard TermWord) (own' : TermWord) (q' : Heard TermWord) : Type 0 where

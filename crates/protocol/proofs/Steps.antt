@@ -2,7 +2,7 @@
 use Rattle.std.proofs.Common.{◌≡◌, ℕ, suc, ◌-◌, ◌<◌, ◌≤◌, Bool, true, false, cond, not, ◌&&◌, ◌||◌, eqb, ◌≢◌, None, Option, sym, refl, ap, ◌∙◌, subst, inl, inr, arith}
 use mathlib.Core.Path.{fun_ext}
 use Rattle.std.proofs.lemmas.Bool.Decides.{nat_tests}
-use Rattle.std.proofs.lemmas.Bool.{cases_eq, cases_Bool, cond-true, cond-false}
+use Rattle.std.proofs.lemmas.Bool.{true≢false, both_ways, cases_eq, cases_Bool, cond-true, cond-false}
 use Rattle.words.specs.declared.knowledge.Decision.{Decision}
 use Rattle.words.specs.declared.knowledge.Knowledge.{Knowledge}
 use Rattle.words.specs.declared.offices.Offices.{Offices}
@@ -48,8 +48,18 @@ told_map f i j lt = fun_ext (λ a. fun_ext (λ b. let h = member-added (f i) j b
 abbrev pub at_round : Office → ℕ → Office
 at_round o r = record o { round = r }
 
-false_true : true ≡ false → ⊥
-false_true e = grind arith
+-- the record of an office in voting
+pub voting_rec : (s : Net) (i : ℕ) (o : Office) → terminating o ≡ false → 1 ≤ o.round → ((j : ℕ) → member o.told j ≡ false) → o.decision ≡ decision_of (class s.n o.knowledge) → Rec s i o
+voting_rec s i o p from told de = record {
+  word_now = λ e. absurd (both_ways _ p e);
+  prior_now = λ e. absurd (both_ways _ p e);
+  first = λ e. absurd (both_ways _ p e);
+  from = from;
+  untold = λ _. told;
+  in_voting = λ _. de;
+  still_open = λ e. absurd (both_ways _ p e);
+  shut = λ e. absurd (both_ways _ p e);
+}
 
 module _ (m : Model) (w : Words) (g : Good m w) where
   cover : Plan (votes m)
@@ -176,23 +186,11 @@ module _ (m : Model) (w : Words) (g : Good m w) where
         let r = g.rec i li in
         let de = r.in_voting p in
         let from = r.from in
-        let rec' : Rec (net m w) i (voted_yes o i) = record {
-          word_now = λ e. absurd (both e p);
-          prior_now = λ e. absurd (both e p);
-          first = λ e. absurd (both e p);
-          from = r.from;
-          untold = r.untold;
-          in_voting = λ _. de ∙ yes-class o.knowledge (ap (λ k. k.no.mask) kn) (ap (λ k. k.ready.mask) kn) ∙ sym (yes-class _ (ap (λ k. k.no.mask) kn) (ap (λ k. k.ready.mask) kn));
-          still_open = λ e. absurd (both e p);
-          shut = λ e. absurd (both e p);
-        } in
+        let rec' : Rec (net m w) i (voted_yes o i) = voting_rec _ _ _ p (r.from) (r.untold p) (de ∙ yes-class o.knowledge (ap (λ k. k.no.mask) kn) (ap (λ k. k.ready.mask) kn) ∙ sym (yes-class _ (ap (λ k. k.no.mask) kn) (ap (λ k. k.ready.mask) kn))) in
         let can : Can (votes m) (v.yes i) = (li, vo, rw (r_is p) from) in
         let f = fair_kept (votes m) g.fair cover (v.yes i) can in
         keep_net (voted_yes o i) li refl refl refl rec'
         (subst Fair (sym (votes_eq m.n m.h m.names m.voting.places _ _ _ _ _ _ (at1_map (λ o. o.knowledge) (office m) i (voted_yes o i)) (at1_map (λ o. o.voted) (office m) i (voted_yes o i)) (at1_id r_of (office m) i (voted_yes o i) refl))) f)
-      where
-        both : terminating (office m i) ≡ true → terminating (office m i) ≡ false → ⊥
-        both a b = grind arith
 
     pub vote_no : i < m.n → terminating (office m i) ≡ false → (office m i).voted ≡ false → Good (with_office m i (voted_no (office m i) i)) w
     vote_no li p vo =
@@ -200,23 +198,11 @@ module _ (m : Model) (w : Words) (g : Good m w) where
         let r = g.rec i li in
         let de = r.in_voting p in
         let from = r.from in
-        let rec' : Rec (net m w) i (voted_no o i) = record {
-          word_now = λ e. absurd (both e p);
-          prior_now = λ e. absurd (both e p);
-          first = λ e. absurd (both e p);
-          from = r.from;
-          untold = r.untold;
-          in_voting = λ _. sym (no-class _ (with_some li o.knowledge.no));
-          still_open = λ e. absurd (both e p);
-          shut = λ e. absurd (both e p);
-        } in
+        let rec' : Rec (net m w) i (voted_no o i) = voting_rec _ _ _ p (r.from) (r.untold p) (sym (no-class _ (with_some li o.knowledge.no))) in
         let can : Can (votes m) (v.no i) = (li, vo, rw (r_is p) from) in
         let f = fair_kept (votes m) g.fair cover (v.no i) can in
         keep_net (voted_no o i) li refl refl refl rec'
         (subst Fair (sym (votes_eq m.n m.h m.names m.voting.places _ _ _ _ _ _ (at1_map (λ o. o.knowledge) (office m) i (voted_no o i)) (at1_map (λ o. o.voted) (office m) i (voted_no o i)) (at1_id r_of (office m) i (voted_no o i) refl))) f)
-      where
-        both : terminating (office m i) ≡ true → terminating (office m i) ≡ false → ⊥
-        both a b = grind arith
 
     -- what i knows once it closed its voting round
     unfoldable pub after-closing : Knowledge
@@ -259,24 +245,12 @@ module _ (m : Model) (w : Words) (g : Good m w) where
           all_below m.n _ (λ j lj. let q = every_at m.n _ e2 j lj in rw re (rw p at q)),
         ) in
         let f = fair_kept (votes m) g.fair cover (v.close i) can in
-        let rec' : Rec (net m w) i after-voting = record {
-          word_now = λ e. absurd (both e p);
-          prior_now = λ e. absurd (both e p);
-          first = λ e. absurd (both e p);
-          from = omega arith;
-          untold = r.untold;
-          in_voting = λ _. latest-same _ _ (λ u. de ∙ closing_keeps p u);
-          still_open = λ e. absurd (both e p);
-          shut = λ e. absurd (both e p);
-        } in
+        let rec' : Rec (net m w) i after-voting = voting_rec _ _ _ p (omega arith) (r.untold p) (latest-same _ _ (λ u. de ∙ closing_keeps p u)) in
         keep_net after-voting li (cond-false _ _ _ p ∙ sym (t_not p)) refl refl rec'
         (subst Fair (sym (votes_eq m.n m.h m.names m.voting.places _ _ _ _ _ _
         (at1_map (λ o. o.knowledge) (office m) i after-voting ∙ ap (at1 (λ a. (office m a).knowledge) i) (after_is p))
         (at1_id (λ o. o.voted) (office m) i after-voting refl)
         (at1_map r_of (office m) i after-voting ∙ ap (at1 (λ a. r_of (office m a)) i) (cond-false _ _ _ p ∙ ap suc (sym re))))) f)
-      where
-        both : terminating (office m i) ≡ true → terminating (office m i) ≡ false → ⊥
-        both a b = grind arith
 
     pub drop_out : verdict m (DropOut i) ≡ 0 → Good (with_office m i (dropped_out (office m i))) w
     drop_out ok =
@@ -304,12 +278,9 @@ module _ (m : Model) (w : Words) (g : Good m w) where
         let d = deed (notice i j) may in
         let r = d.1 i li in
         let e = net_eq m.n m.termination w _ _ _ _ _ _ (at1_id t_of (office m) i (told_of o j) refl) (at1_id (λ o. not o.standing) (office m) i (told_of o j) refl) (told_is j may.0.1) in
-        let rec' : Rec (does (net m w) (notice i j)) i (told_of o j) = record { word_now = r.word_now; prior_now = r.prior_now; first = r.first; from = r.from; untold = λ e. absurd (both p e); in_voting = r.in_voting; still_open = r.still_open; shut = r.shut } in
+        let rec' : Rec (does (net m w) (notice i j)) i (told_of o j) = record { word_now = r.word_now; prior_now = r.prior_now; first = r.first; from = r.from; untold = λ e. absurd (both_ways _ e p); in_voting = r.in_voting; still_open = r.still_open; shut = r.shut } in
         good_office m w w i (told_of o j) g li (subst Sound (sym e) d.0) (same-votes (told_of o j) refl refl refl)
         (subst (λ (s : Net). (a : ℕ) → a < m.n → Rec s a (at1 (office m) i (told_of o j) a)) (sym e) (rec_at (does (net m w) (notice i j)) (told_of o j) refl d.1 rec'))
-      where
-        both : terminating (office m i) ≡ true → terminating (office m i) ≡ false → ⊥
-        both a b = grind arith
 
     pub enter_word : TermWord
     enter_word = first_word (class m.n (office m i).knowledge)
@@ -321,8 +292,8 @@ module _ (m : Model) (w : Words) (g : Good m w) where
       prior_now = λ _. sym (sym (word_kept s (enter i x) i 0 may (omega arith)) ∙ z);
       first = λ _. at_one ∙ xe ∙ ap (λ n. first_word (class n o.knowledge)) (sym n);
       from = omega arith;
-      untold = λ e. absurd (false_true e);
-      in_voting = λ e. absurd (false_true e);
+      untold = λ e. absurd (true≢false e);
+      in_voting = λ e. absurd (true≢false e);
       still_open = λ _ u. (omega arith, λ k k1 lt. absurd (omega arith));
       shut = λ _ u. inl (refl, de);
     }
@@ -427,8 +398,8 @@ module _ (m : Model) (w : Words) (g : Good m w) where
           prior_now = λ _. r.word_now p ∙ word_kept s (close i) i o.round may (omega arith) ∙ ap ((does s (close i)).word i) back;
           first = λ _. sym (word_kept s (close i) i 1 may (omega arith)) ∙ r.first p;
           from = omega arith;
-          untold = λ e. absurd (false_true e);
-          in_voting = λ e. absurd (false_true e);
+          untold = λ e. absurd (true≢false e);
+          in_voting = λ e. absurd (true≢false e);
           still_open = λ _ u.
               let fu : f ≡ None = later_open f o.decision u in
               let (n1, n2, n3) = no_rule _ _ _ (fate_is li p ∙ fu) in

@@ -1,7 +1,7 @@
 -- Each move of the voting keeps what Fair says. Assumes nothing.
 use Rattle.std.proofs.Common.{◌≡◌, ℕ, suc, ◌+◌, ◌-◌, ◌<◌, ◌≤◌, Bool, true, false, ◌&&◌, ◌||◌, eqb, ltb, ◌⊎◌, Option, sym, ap, ◌∙◌, subst, inl, inr, arith}
 use Rattle.std.proofs.lemmas.Bool.Decides.{nat_tests}
-use Rattle.std.proofs.lemmas.Bool.{cases_eq, cases_Bool, or_cases, or_left, or_right}
+use Rattle.std.proofs.lemmas.Bool.{both_ways, cases_eq, cases_Bool, or_cases, or_left, or_right}
 use Rattle.words.specs.declared.knowledge.Knowledge.{Knowledge}
 use Rattle.words.specs.declared.offices.Offices.{Offices}
 use Rattle.words.specs.Knowledge.{knows_nothing}
@@ -128,19 +128,16 @@ module _ (u : Votes) where
   one_vote' f v g j y x = elim (yes_origin f v g j j y) [
     | inl q ↦ elim (no_origin f v g j j x) [
       | inl q' ↦ differ v j q q'
-      | inr (l, b) ↦ let (_, c) = f.no_own l j b in let (_, z) = unvoted_none f j (voter v j g (inl q)).1 in clash _ c z
+      | inr (l, b) ↦ let (_, c) = f.no_own l j b in let (_, z) = unvoted_none f j (voter v j g (inl q)).1 in both_ways _ z c
     ]
     | inr (l, a) ↦ let (_, d) = f.yes_own l j a in elim (no_origin f v g j j x) [
-      | inl q' ↦ let (z, _) = unvoted_none f j (voter v j g (inr q')).1 in clash _ d z
+      | inl q' ↦ let (z, _) = unvoted_none f j (voter v j g (inr q')).1 in both_ways _ z d
       | inr (l', b) ↦ f.one_vote j d (f.no_own l' j b).1
     ]
   ]
     where
       differ : (v : Move) (j : ℕ) → v ≡ yes j → v ≡ no j → ⊥
       differ v j p q = grind arith
-
-      clash : (b : Bool) → b ≡ true → b ≡ false → ⊥
-      clash b p q = grind arith
 
   in_yes' : Fair u → (v : Move) → Can u v → (s d k j : ℕ) → member (content ((moved u v).place s d k)).yes j ≡ true → has_yes (moved u v) s j ≡ true
   in_yes' f v g s d k j e = grows_yes v g s j (before v e)
