@@ -31,7 +31,7 @@ use Rattle.protocol.proofs.NetDead.{none-N, hears_A, after-C}
 use Rattle.protocol.proofs.Voting.{Votes, has_yes, last, is_taken, content, Lies, Knew}
 use Rattle.protocol.proofs.Votes.{still_open}
 use Rattle.protocol.proofs.View.{t_of, r_of, net, votes, Good}
-use Rattle.protocol.proofs.Decided.{class_commit, class-N, first_of, ready_all, no_voter}
+use Rattle.protocol.proofs.Decided.{no_rule, class_commit, class-N, first_of, ready_all, no_voter}
 use Rattle.protocol.proofs.Steps.{last_is}
 use Rattle.protocol.proofs.Accepts as accepts
 
@@ -40,9 +40,6 @@ agrees_own p x y o e = grind arith
 
 own_word : (s : Net) (a b k : ℕ) → Own s a b k → (s.place a b k ≡ Empty) ⊎ ((s.place a b k ≡ Waiting (s.word a k)) ⊎ (s.place a b k ≡ Taken (s.word a k)))
 own_word s a b k o = grind arith
-
-no_rule : (a b c : Bool) → cond a to_abort (cond b to_commit (cond c to_abort None)) ≡ None → (a ≡ false) × (b ≡ false)
-no_rule a b c e = grind arith
 
 some_rule : (a b c : Bool) → cond a to_abort (cond b to_commit (cond c to_abort None)) ≢ None → ((a ≡ true) ⊎ (c ≡ true)) ⊎ (b ≡ true)
 some_rule a b c e = grind arith
@@ -178,20 +175,20 @@ module _ (m : Model) (w : ℕ → ℕ → TermWord) (g : Good m w) (stuck : (c :
         let (_, fs) = (g.rec i li).still_open pi un in
         let r = g.rec j lj in
         let from = r.from in
-        let none : (fits1 s i (office m j).round ≡ false) × (fits2 s i (office m j).round ≡ false) = no_rule (fits1 s i (office m j).round) (fits2 s i (office m j).round) (fits3 s i (office m j).round) (fs (office m j).round from lt) in
+        let (none1, none2, _) = no_rule (fits1 s i (office m j).round) (fits2 s i (office m j).round) (fits3 s i (office m j).round) (fs (office m j).round from lt) in
         let ne : i ≢ j = λ e. lower i j e lt in
         let told-j : spoke (heard (m.termination.places j i (office m j).round)) ≡ true = took_j s (office m j).round i j (g.sound.closed i j (office m j).round from (omega arith) lj ne) (λ q. gone j (g.sound.gone i j q) stj) in
-        let not_A : s.word j (office m j).round ≢ A = λ a. both_ways _ none.0 (hears_A s i j (office m j).round lj (g.sound.own j i (office m j).round) told-j a) in
+        let not_A : s.word j (office m j).round ≢ A = λ a. both_ways _ none1 (hears_A s i j (office m j).round lj (g.sound.own j i (office m j).round) told-j a) in
         elim (r.shut pj de) [
           | inl (r1, e) ↦ elim (decided_class (class m.n (office m j).knowledge) (λ q. de (e ∙ q))) [
             | inl a ↦ not_A (ap (s.word j) r1 ∙ r.first pj ∙ a)
             | inr c ↦ let no-N : (l : ℕ) → l < m.n → 1 ≤ s.t l → s.word l 1 ≢ N = λ l ll t1 q. class-N m.n _ (ready_all m w g j (class_commit m.n _ c) l ll) (sym (first_of m w g l ll t1) ∙ q) in
-                none-N s g.sound i 1 li (omega arith) no-N (ap (fits1 s i) (sym r1) ∙ none.0) (ap (fits2 s i) (sym r1) ∙ none.1)
+                none-N s g.sound i 1 li (omega arith) no-N (ap (fits1 s i) (sym r1) ∙ none1) (ap (fits2 s i) (sym r1) ∙ none2)
           ]
           | inr (k, q1, rq, f) ↦ elim (some_rule (fits1 s j k) (fits2 s j k) (fits3 s j k) (λ z. de (f ∙ z))) [
             | inl x ↦ not_A (ap (s.word j) rq ∙ g.sound.grown j k q1 (omega arith) ∙ says_A_next s j k x)
             | inr x ↦ let no-N : (l : ℕ) → l < m.n → suc k ≤ s.t l → s.word l (suc k) ≢ N = λ l ll tl. after-C s g.sound j k lj q1 (ap not stj) (word_C s j k x) (omega arith) l ll tl in
-                none-N s g.sound i (suc k) li (omega arith) no-N (ap (fits1 s i) (sym rq) ∙ none.0) (ap (fits2 s i) (sym rq) ∙ none.1)
+                none-N s g.sound i (suc k) li (omega arith) no-N (ap (fits1 s i) (sym rq) ∙ none1) (ap (fits2 s i) (sym rq) ∙ none2)
           ]
         ]
       where

@@ -10,14 +10,18 @@ use Rattle.words.specs.Offices.{full}
 use Rattle.protocol.specs.Letters.{N, C, A, to_abort, to_commit}
 use Rattle.protocol.specs.Model.{Model, office}
 use Rattle.protocol.specs.Rules.{class, first_word}
-use Rattle.protocol.proofs.Sums.{full_at, some-member}
+use Rattle.protocol.proofs.NetLimit.{word_from}
+use Rattle.protocol.proofs.Sums.{A≢N, full_at, some-member}
 use Rattle.protocol.proofs.Net.{Net, fits1, fits2, fits3, fate_at, Sound}
 use Rattle.protocol.proofs.NetAgree.{rises, agreed}
-use Rattle.protocol.proofs.NetWhole.{A-from, A_word, C-first}
+use Rattle.protocol.proofs.NetWhole.{A-from, C-first}
 use Rattle.protocol.proofs.NetWords.{word_C, word_N, fits1_A}
 use Rattle.protocol.proofs.Voting.{has_yes, has_no}
 use Rattle.protocol.proofs.View.{t_of, net, votes, Good}
 use Rattle.protocol.specs.Records.{terminating}
+
+pub no_rule : (a b c : Bool) → cond a to_abort (cond b to_commit (cond c to_abort None)) ≡ None → (a ≡ false) × (b ≡ false) × (c ≡ false)
+no_rule a b c e = grind arith
 
 pub three_abort : (a b c : Bool) → cond a to_abort (cond b to_commit (cond c to_abort None)) ≡ to_abort → (a ≡ true) ⊎ (c ≡ true)
 three_abort a b c e = grind arith
@@ -49,7 +53,7 @@ class-N n k f e = grind (arith, nat_tests)
 rule_three : (s : Net) → Sound s → (i k : ℕ) → i < s.n → 1 ≤ k → k < s.t i → ((a : ℕ) → a < s.n → 1 ≤ s.t a → s.word a 1 ≢ A) → (fits1 s i k ≡ true) ⊎ (fits3 s i k ≡ true) → (a : ℕ) × (r : ℕ) × (a < s.n) × (1 ≤ r) × (r < s.t a) × (fits3 s a r ≡ true)
 rule_three s h i k li k1 kt no-A (inr r3) = (i, k, li, k1, kt, r3)
 rule_three s h i k li k1 kt no-A (inl r1) =
-    let (l, ll, kl, wl) = A_word s h i k li (omega arith) (fits1_A s i k r1) in
+    let (l, ll, kl, wl) = word_from A A≢N s h i k li (omega arith) (fits1_A s i k r1) in
     A-from s h no-A k l ll k1 kl wl
 
 module _ (m : Model) (w : ℕ → ℕ → TermWord) (g : Good m w) where

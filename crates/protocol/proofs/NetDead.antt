@@ -1,13 +1,12 @@
 -- What a decided office that stands makes of the others. Assumes nothing.
 use Rattle.std.proofs.Common.{◌≡◌, ℕ, suc, ◌<◌, ◌≤◌, true, false, ◌≢◌, sym, ap, ◌∙◌, inl, inr, arith}
 use Rattle.std.proofs.lemmas.Bool.{both_ways, cases_eq}
-use Rattle.words.specs.declared.term.TermWord.{TermWord}
 use Rattle.protocol.specs.Hearing.{heard, spoke}
 use Rattle.protocol.specs.Letters.{N, C, A}
 use Rattle.protocol.proofs.Sums.{word_or}
 use Rattle.protocol.proofs.Net.{Net, hears, sum_of, fits1, fits2, Own, Done, Sound}
 use Rattle.protocol.proofs.NetWords.{next_N, own_N, hears_N, A_fits1, heard-A}
-use Rattle.protocol.proofs.Rules.{three}
+use Rattle.protocol.proofs.Rules.{three, not_both}
 use Rattle.protocol.proofs.NetLimit.{N-from}
 
 -- where every word of round k is C or A, whoever heard them decides
@@ -30,12 +29,9 @@ pub after-C : (s : Net) → Sound s → (j q : ℕ) → j < s.n → 1 ≤ q → 
 after-C s h j q lj q1 st c qj l ll ql n =
     let (_, e) = next_N s l q (sym (h.grown l q q1 ql) ∙ n) in
     elim (cases_eq l j) [
-      | inl p ↦ clash (s.word j q) c (ap (λ (z : ℕ). s.word z q) (sym p) ∙ own_N s l q e)
+      | inl p ↦ not_both c (ap (λ (z : ℕ). s.word z q) (sym p) ∙ own_N s l q e)
       | inr ne ↦ heard-C s l j q (h.own j l q) (h.closed l j q q1 ql lj ne) (h.gone l j) st c (hears_N s l q e j lj)
     ]
   where
-    clash : (w : TermWord) → w ≡ C → w ≡ N → ⊥
-    clash w a b = grind arith
-
     heard-C : (s : Net) (l j q : ℕ) → Own s j l q → Done s l j q → (s.told l j ≡ true → s.dropped j ≡ true) → s.dropped j ≡ false → s.word j q ≡ C → word_or N (hears s l q j) ≡ N → ⊥
     heard-C s l j q o d g st c e = grind arith

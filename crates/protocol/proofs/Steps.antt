@@ -1,5 +1,5 @@
 -- Each accepted call keeps what Good says. Assumes nothing.
-use Rattle.std.proofs.Common.{◌≡◌, ℕ, suc, ◌-◌, ◌<◌, ◌≤◌, Bool, true, false, cond, not, ◌&&◌, ◌||◌, eqb, ◌≢◌, None, Option, sym, refl, ap, ◌∙◌, subst, inl, inr, arith}
+use Rattle.std.proofs.Common.{◌≡◌, ℕ, suc, ◌-◌, ◌<◌, ◌≤◌, Bool, true, false, not, ◌&&◌, ◌||◌, eqb, ◌≢◌, None, Option, sym, refl, ap, ◌∙◌, subst, inl, inr, arith}
 use mathlib.Core.Path.{fun_ext}
 use Rattle.std.proofs.lemmas.Bool.Decides.{nat_tests}
 use Rattle.std.proofs.lemmas.Bool.{true≢false, both_ways, cases_eq, cases_Bool, cond-true, cond-false}
@@ -17,7 +17,7 @@ use Rattle.protocol.specs.declared.call.Call.TheVariants.{Speak, Hear, Close, Dr
 use Rattle.protocol.specs.declared.office.Office.{Office}
 use Rattle.protocol.specs.Asked.{waiting_from, verdict}
 use Rattle.protocol.specs.Hearing.{heard, spoke}
-use Rattle.protocol.specs.Letters.{N, to_abort, to_commit}
+use Rattle.protocol.specs.Letters.{N, to_abort}
 use Rattle.protocol.specs.Model.{Mail, Model, office, voting_rounds}
 use Rattle.protocol.specs.Records.{prior, terminating, word, latest, next_round, voted_yes, voted_no, dropped_out, told_of, entered, closed_voting, closed_termination}
 use Rattle.protocol.specs.Rules.{learns, class, first_word, ruling, next_word}
@@ -27,6 +27,7 @@ use Rattle.words.proofs.Members.{added_self}
 use Rattle.protocol.proofs.Sums.{every_at, all_below, count_all, some_at, full_at, full_from, no_member}
 use Rattle.protocol.proofs.Net.{Net, Deed, speak, hear, notice, close, drop, enter, May, does, word_after, fate_at, waits_for, Sound}
 use Rattle.protocol.proofs.NetKeeps.{keeps_does, word_kept, fate_kept, made}
+use Rattle.protocol.proofs.Decided.{no_rule}
 use Rattle.protocol.proofs.NetLimit.{bounded, may_close}
 use Rattle.protocol.proofs.Voting as v
 use Rattle.protocol.proofs.Voting.{Votes, Fair, Plan, Can, moved}
@@ -374,9 +375,6 @@ module _ (m : Model) (w : Words) (g : Good m w) where
         ∙ ap (λ (k : ℕ). next_word m.n k (w i k) (heard_in m.termination i k) (w i (k - 1)) (heard_in m.termination i (k - 1))) (t_is p)
         ∙ ap (λ x. next_word m.n (office m i).round x (heard_in m.termination i (office m i).round) (w i ((office m i).round - 1)) (heard_in m.termination i ((office m i).round - 1))) (sym ((g.rec i li).word_now p))
         ∙ ap (λ x. next_word m.n (office m i).round (word (office m i)) (heard_in m.termination i (office m i).round) x (heard_in m.termination i ((office m i).round - 1))) (sym ((g.rec i li).prior_now p))
-
-    no_rule : (a b c : Bool) → cond a to_abort (cond b to_commit (cond c to_abort None)) ≡ None → (a ≡ false) × (b ≡ false) × (c ≡ false)
-    no_rule a b c e = grind arith
 
     close_rec : terminating (office m i) ≡ true → verdict m (Close i) ≡ 0 → Rec (does (net m w) (close i)) i after_ending
     unfolding after_ending

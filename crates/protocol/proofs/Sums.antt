@@ -84,11 +84,17 @@ join_N a b h = grind arith
 pub join_C : (a b : TermWord) → a ≢ C → b ≢ C → higher a b ≢ C
 join_C a b p q = grind arith
 
-pub join_C_one : (a b : TermWord) → higher a b ≡ C → (a ≡ C) ⊎ (b ≡ C)
-join_C_one a b h = grind arith
+pub join_one : (w : TermWord) → w ≢ N → (a b : TermWord) → higher a b ≡ w → (a ≡ w) ⊎ (b ≡ w)
+join_one w ne a b h = grind arith
 
-pub join_A_one : (a b : TermWord) → higher a b ≡ A → (a ≡ A) ⊎ (b ≡ A)
-join_A_one a b h = grind arith
+pub join_A : (a b : TermWord) → (a ≡ A) ⊎ (b ≡ A) → higher a b ≡ A
+join_A a b e = grind arith
+
+pub C≢N : C ≢ N
+C≢N e = grind arith
+
+pub A≢N : A ≢ N
+A≢N e = grind arith
 
 -- the word, or the empty word where none was heard
 abbrev pub word_or : {W : Type 0} → W → Option W → W
@@ -124,26 +130,15 @@ unfolding words
 sum_C zero q h = grind arith
 sum_C (suc n) q h = rw (next_term n q) (join_C (sum_term n q) (word_or N (q n)) (sum_C n q (λ l lt. h l (omega arith))) (h n (omega arith)))
 
-high_A : (a b : TermWord) → (a ≡ A) ⊎ (b ≡ A) → higher a b ≡ A
-high_A a b e = grind arith
-
 pub sum_A : (n : ℕ) (q : Heard TermWord) (l : ℕ) → l < n → word_or N (q l) ≡ A → sum_term n q ≡ A
 sum_A zero q l lt e = grind arith
-sum_A (suc n) q l lt e = next_term n q ∙ high_A _ _ (elim (cases_eq l n) [ inl s ↦ inr (rw s at e) | inr ne ↦ inl (sum_A n q l (omega arith) e) ])
+sum_A (suc n) q l lt e = next_term n q ∙ join_A _ _ (elim (cases_eq l n) [ inl s ↦ inr (rw s at e) | inr ne ↦ inl (sum_A n q l (omega arith) e) ])
 
-pub sum_C_at : (n : ℕ) (q : Heard TermWord) → sum_term n q ≡ C → (l : ℕ) × (l < n) × (word_or N (q l) ≡ C)
+pub sum_at : (w : TermWord) → w ≢ N → (n : ℕ) (q : Heard TermWord) → sum_term n q ≡ w → (l : ℕ) × (l < n) × (word_or N (q l) ≡ w)
 unfolding words
-sum_C_at zero q h = absurd (grind arith)
-sum_C_at (suc n) q h = elim (join_C_one _ _ (sym (next_term n q) ∙ h)) [
-  | inl e ↦ let (l, lt, x) = sum_C_at n q e in (l, omega arith, x)
-  | inr e ↦ (n, omega arith, e)
-]
-
-pub sum_A_at : (n : ℕ) (q : Heard TermWord) → sum_term n q ≡ A → (l : ℕ) × (l < n) × (word_or N (q l) ≡ A)
-unfolding words
-sum_A_at zero q h = absurd (grind arith)
-sum_A_at (suc n) q h = elim (join_A_one _ _ (sym (next_term n q) ∙ h)) [
-  | inl e ↦ let (l, lt, x) = sum_A_at n q e in (l, omega arith, x)
+sum_at w nn zero q h = absurd (nn (sym h))
+sum_at w nn (suc n) q h = elim (join_one w nn _ _ (sym (next_term n q) ∙ h)) [
+  | inl e ↦ let (l, lt, x) = sum_at w nn n q e in (l, omega arith, x)
   | inr e ↦ (n, omega arith, e)
 ]
 
