@@ -143,25 +143,30 @@ module _ (m : Model) (w : Words) (g : Good m w) where
         good_termination (filled_is m.termination j i (office m i).round (taken (m.termination.places j i (office m i).round))) d refl
 
     -- the records after i's was changed, where all else stays true
-    rec_at : (s : Net) (o : Office) → s.n ≡ m.n → ((a : ℕ) → a < m.n → Rec s a (office m a)) → Rec s i o → (a : ℕ) → a < m.n → Rec s a (at1 (office m) i o a)
-    rec_at s o e old new a la = elim (at1_is (office m) i o a) [
+    rec_at : (s : Net) (o : Office) → ((a : ℕ) → a < m.n → Rec s a (office m a)) → Rec s i o → (a : ℕ) → a < m.n → Rec s a (at1 (office m) i o a)
+    rec_at s o old new a la = elim (at1_is (office m) i o a) [
       | inl (q, x) ↦ rw (x, q) new
       | inr (_, x) ↦ rw x (old a la)
     ]
+
+    -- a release with i's record changed, in the termination s
+    good_at : (w' : Words) (o : Office) (s : Net) → i < m.n → net_of m.n m.termination w' (at1 (office m) i o) ≡ s → Sound s × ((a : ℕ) → a < m.n → Rec s a (office m a)) → Rec s i o → Fair (votes_of m.n m.h m.names m.voting (at1 (office m) i o)) → Good (with_office m i o) w'
+    good_at w' o s li e (sound, old) new f = good_office m w w' i o g li (subst Sound (sym e) sound) f (subst (λ (s : Net). (a : ℕ) → a < m.n → Rec s a (at1 (office m) i o a)) (sym e) (rec_at s o old new))
 
     -- i's record changes, the termination does not
     same_net : (o : Office) → t_of o ≡ t_of (office m i) → o.standing ≡ (office m i).standing → o.told ≡ (office m i).told → net_of m.n m.termination w (at1 (office m) i o) ≡ net m w
     same_net o e1 e2 e3 = net_eq m.n m.termination w _ _ _ _ _ _ (at1_id t_of (office m) i o e1) (at1_id (λ o. not o.standing) (office m) i o (ap not e2)) (at1_id (λ o. member o.told) (office m) i o (ap member e3))
 
     keep_net : (o : Office) → i < m.n → t_of o ≡ t_of (office m i) → o.standing ≡ (office m i).standing → o.told ≡ (office m i).told → Rec (net m w) i o → Fair (votes_of m.n m.h m.names m.voting (at1 (office m) i o)) → Good (with_office m i o) w
-    keep_net o li e1 e2 e3 r f =
-        let e = same_net o e1 e2 e3 in
-        good_office m w w i o g li (subst Sound (sym e) g.sound) f
-        (subst (λ (s : Net). (a : ℕ) → a < m.n → Rec s a (at1 (office m) i o a)) (sym e) (rec_at (net m w) o refl g.rec r))
+    keep_net o li e1 e2 e3 r f = good_at w o (net m w) li (same_net o e1 e2 e3) (g.sound, g.rec) r f
+
+    -- the voting with i's record changed
+    fair_at : (o : Office) (k : ℕ → Knowledge) (d : ℕ → Bool) (r : ℕ → ℕ) → (λ (a : ℕ). (at1 (office m) i o a).knowledge) ≡ k → (λ (a : ℕ). (at1 (office m) i o a).voted) ≡ d → (λ (a : ℕ). r_of (at1 (office m) i o a)) ≡ r → Fair (record (votes m) { knowledge = k; voted = d; r = r }) → Fair (votes_of m.n m.h m.names m.voting (at1 (office m) i o))
+    fair_at o k d r x y z f = subst Fair (sym (votes_eq m.n m.h m.names m.voting.places _ k _ d _ r x y z)) f
 
     same-votes : (o : Office) → o.knowledge ≡ (office m i).knowledge → o.voted ≡ (office m i).voted → r_of o ≡ r_of (office m i) → Fair (votes_of m.n m.h m.names m.voting (at1 (office m) i o))
     same-votes o e1 e2 e3 =
-        subst Fair (sym (votes_eq m.n m.h m.names m.voting.places _ _ _ _ _ _ (at1_id (λ o. o.knowledge) (office m) i o e1) (at1_id (λ o. o.voted) (office m) i o e2) (at1_id r_of (office m) i o e3))) g.fair
+        fair_at o _ _ _ (at1_id (λ o. o.knowledge) (office m) i o e1) (at1_id (λ o. o.voted) (office m) i o e2) (at1_id r_of (office m) i o e3) g.fair
 
     not_full : (s : Offices) → s.mask ≡ 0 → full m.n s ≡ false
     not_full s e = elim (cases_Bool (full m.n s)) [
@@ -191,7 +196,7 @@ module _ (m : Model) (w : Words) (g : Good m w) where
         let can : Can (votes m) (v.yes i) = (li, vo, rw (r_is p) from) in
         let f = fair_kept (votes m) g.fair cover (v.yes i) can in
         keep_net (voted_yes o i) li refl refl refl rec'
-        (subst Fair (sym (votes_eq m.n m.h m.names m.voting.places _ _ _ _ _ _ (at1_map (λ o. o.knowledge) (office m) i (voted_yes o i)) (at1_map (λ o. o.voted) (office m) i (voted_yes o i)) (at1_id r_of (office m) i (voted_yes o i) refl))) f)
+        (fair_at _ _ _ _ (at1_map (λ o. o.knowledge) (office m) i (voted_yes o i)) (at1_map (λ o. o.voted) (office m) i (voted_yes o i)) (at1_id r_of (office m) i (voted_yes o i) refl) f)
 
     pub vote_no : i < m.n → terminating (office m i) ≡ false → (office m i).voted ≡ false → Good (with_office m i (voted_no (office m i) i)) w
     vote_no li p vo =
@@ -203,7 +208,7 @@ module _ (m : Model) (w : Words) (g : Good m w) where
         let can : Can (votes m) (v.no i) = (li, vo, rw (r_is p) from) in
         let f = fair_kept (votes m) g.fair cover (v.no i) can in
         keep_net (voted_no o i) li refl refl refl rec'
-        (subst Fair (sym (votes_eq m.n m.h m.names m.voting.places _ _ _ _ _ _ (at1_map (λ o. o.knowledge) (office m) i (voted_no o i)) (at1_map (λ o. o.voted) (office m) i (voted_no o i)) (at1_id r_of (office m) i (voted_no o i) refl))) f)
+        (fair_at _ _ _ _ (at1_map (λ o. o.knowledge) (office m) i (voted_no o i)) (at1_map (λ o. o.voted) (office m) i (voted_no o i)) (at1_id r_of (office m) i (voted_no o i) refl) f)
 
     -- what i knows once it closed its voting round
     unfoldable pub after-closing : Knowledge
@@ -248,10 +253,10 @@ module _ (m : Model) (w : Words) (g : Good m w) where
         let f = fair_kept (votes m) g.fair cover (v.close i) can in
         let rec' : Rec (net m w) i after-voting = voting_rec _ _ _ p (omega arith) (r.untold p) (latest-same _ _ (λ u. de ∙ closing_keeps p u)) in
         keep_net after-voting li (cond-false _ _ _ p ∙ sym (t_not p)) refl refl rec'
-        (subst Fair (sym (votes_eq m.n m.h m.names m.voting.places _ _ _ _ _ _
+        (fair_at _ _ _ _
         (at1_map (λ o. o.knowledge) (office m) i after-voting ∙ ap (at1 (λ a. (office m a).knowledge) i) (after_is p))
         (at1_id (λ o. o.voted) (office m) i after-voting refl)
-        (at1_map r_of (office m) i after-voting ∙ ap (at1 (λ a. r_of (office m a)) i) (cond-false _ _ _ p ∙ ap suc (sym re))))) f)
+        (at1_map r_of (office m) i after-voting ∙ ap (at1 (λ a. r_of (office m a)) i) (cond-false _ _ _ p ∙ ap suc (sym re))) f)
 
     pub drop_out : verdict m (DropOut i) ≡ 0 → Good (with_office m i (dropped_out (office m i))) w
     drop_out ok =
@@ -261,8 +266,7 @@ module _ (m : Model) (w : Words) (g : Good m w) where
         let r = d.1 i li in
         let e = net_eq m.n m.termination w _ _ _ _ _ _ (at1_id t_of (office m) i (dropped_out o) refl) (at1_map (λ o. not o.standing) (office m) i (dropped_out o)) (at1_id (λ o. member o.told) (office m) i (dropped_out o) refl) in
         let rec' : Rec (does (net m w) (drop i)) i (dropped_out o) = record { word_now = r.word_now; prior_now = r.prior_now; first = r.first; from = r.from; untold = r.untold; in_voting = r.in_voting; still_open = r.still_open; shut = r.shut } in
-        good_office m w w i (dropped_out o) g li (subst Sound (sym e) d.0) (same-votes (dropped_out o) refl refl refl)
-        (subst (λ (s : Net). (a : ℕ) → a < m.n → Rec s a (at1 (office m) i (dropped_out o) a)) (sym e) (rec_at (does (net m w) (drop i)) (dropped_out o) refl d.1 rec'))
+        good_at w (dropped_out o) (does (net m w) (drop i)) li e d rec' (same-votes (dropped_out o) refl refl refl)
 
     told_is : (j : ℕ) → j < m.n → (λ (a b : ℕ). member (at1 (office m) i (told_of (office m i) j) a).told b) ≡ at2 (λ a b. member (office m a).told b) i j true
     told_is j lj = let few = g.fixed.few in ap {B = ℕ → ℕ → Bool} (λ (f : ℕ → Offices) (a b : ℕ). member (f a) b) (at1_map (λ o. o.told) (office m) i (told_of (office m i) j)) ∙ told_map (λ a. (office m a).told) i j (omega arith)
@@ -280,8 +284,7 @@ module _ (m : Model) (w : Words) (g : Good m w) where
         let r = d.1 i li in
         let e = net_eq m.n m.termination w _ _ _ _ _ _ (at1_id t_of (office m) i (told_of o j) refl) (at1_id (λ o. not o.standing) (office m) i (told_of o j) refl) (told_is j may.0.1) in
         let rec' : Rec (does (net m w) (notice i j)) i (told_of o j) = record { word_now = r.word_now; prior_now = r.prior_now; first = r.first; from = r.from; untold = λ e. absurd (both_ways _ e p); in_voting = r.in_voting; still_open = r.still_open; shut = r.shut } in
-        good_office m w w i (told_of o j) g li (subst Sound (sym e) d.0) (same-votes (told_of o j) refl refl refl)
-        (subst (λ (s : Net). (a : ℕ) → a < m.n → Rec s a (at1 (office m) i (told_of o j) a)) (sym e) (rec_at (does (net m w) (notice i j)) (told_of o j) refl d.1 rec'))
+        good_at w (told_of o j) (does (net m w) (notice i j)) li e d rec' (same-votes (told_of o j) refl refl refl)
 
     pub enter_word : TermWord
     enter_word = first_word (class m.n (office m i).knowledge)
@@ -311,7 +314,7 @@ module _ (m : Model) (w : Words) (g : Good m w) where
 
     left : (o : Office) → o.knowledge ≡ (office m i).knowledge → o.voted ≡ (office m i).voted → terminating o ≡ true → i < m.n → Fair (votes_of m.n m.h m.names m.voting (at1 (office m) i o))
     left o e1 e2 e3 li =
-        subst Fair (sym (votes_eq m.n m.h m.names m.voting.places _ _ _ _ _ _ (at1_id (λ o. o.knowledge) (office m) i o e1) (at1_id (λ o. o.voted) (office m) i o e2) (at1_map r_of (office m) i o ∙ ap (at1 (λ a. r_of (office m a)) i) (cond-true _ _ _ e3))))
+        fair_at o _ _ _ (at1_id (λ o. o.knowledge) (office m) i o e1) (at1_id (λ o. o.voted) (office m) i o e2) (at1_map r_of (office m) i o ∙ ap (at1 (λ a. r_of (office m a)) i) (cond-true _ _ _ e3))
         (fair_kept (votes m) g.fair cover (v.leave i) li)
 
     pub join : verdict m (Join i) ≡ 0 → Good (with_office m i (entered m.n (office m i))) (word_after (net m w) (enter i enter_word))
@@ -323,9 +326,7 @@ module _ (m : Model) (w : Words) (g : Good m w) where
         let d = deed (enter i enter_word) may in
         let w' = word_after (net m w) (enter i enter_word) in
         let e = net_eq m.n m.termination w' _ _ _ _ _ _ (at1_map t_of (office m) i (entered m.n o)) (at1_id (λ o. not o.standing) (office m) i (entered m.n o) refl) (at1_id (λ o. member o.told) (office m) i (entered m.n o) refl) in
-        good_office m w w' i (entered m.n o) g li (subst Sound (sym e) d.0) (left (entered m.n o) refl refl refl li)
-        (subst (λ (s : Net). (a : ℕ) → a < m.n → Rec s a (at1 (office m) i (entered m.n o) a)) (sym e)
-        (rec_at (does (net m w) (enter i enter_word)) (entered m.n o) refl d.1 (enter_rec (net m w) o refl (g.sound.zeroth i) ((g.rec i li).in_voting p) enter_word refl may)))
+        good_at w' (entered m.n o) (does (net m w) (enter i enter_word)) li e d (enter_rec (net m w) o refl (g.sound.zeroth i) ((g.rec i li).in_voting p) enter_word refl may) (left (entered m.n o) refl refl refl li)
 
     pub notice_voting : (j : ℕ) → terminating (office m i) ≡ false → verdict m (Notice i j) ≡ 0 → Good (with_office m i (entered m.n (told_of (office m i) j))) (word_after (net m w) (enter i enter_word))
     unfolding enter_word
@@ -341,9 +342,7 @@ module _ (m : Model) (w : Words) (g : Good m w) where
         let d2 : All (does s (enter i enter_word)) (office m) = (keeps_does s d1.0 (enter i enter_word) may2, λ a la. rec_kept s (enter i enter_word) a (office m a) may2 refl (d1.1 a la)) in
         let w' = word_after (net m w) (enter i enter_word) in
         let e = net_eq m.n m.termination w' _ _ _ _ _ _ (at1_map t_of (office m) i (entered m.n o)) (at1_id (λ o. not o.standing) (office m) i (entered m.n o) refl) (entered-told j lj) in
-        good_office m w w' i (entered m.n o) g li (subst Sound (sym e) d2.0) (left (entered m.n o) refl refl refl li)
-        (subst (λ (s : Net). (a : ℕ) → a < m.n → Rec s a (at1 (office m) i (entered m.n o) a)) (sym e)
-        (rec_at (does s (enter i enter_word)) (entered m.n o) refl d2.1 (enter_rec s o refl (d1.0.zeroth i) ((d1.1 i li).in_voting p) enter_word refl may2)))
+        good_at w' (entered m.n o) (does s (enter i enter_word)) li e d2 (enter_rec s o refl (d1.0.zeroth i) ((d1.1 i li).in_voting p) enter_word refl may2) (left (entered m.n o) refl refl refl li)
       where
         is_told : (f : ℕ → ℕ → Bool) (j : ℕ) → at2 f i j true i j ≡ true
         is_told f j = grind (arith, at2_is)
@@ -423,9 +422,7 @@ module _ (m : Model) (w : Words) (g : Good m w) where
         let d = deed (close i) may in
         let w' = word_after (net m w) (close i) in
         let e = net_eq m.n m.termination w' _ _ _ _ _ _ (at1_map t_of (office m) i after_ending ∙ ap (at1 (λ a. t_of (office m a)) i) (t_closed p)) (at1_id (λ o. not o.standing) (office m) i after_ending refl) (at1_id (λ o. member o.told) (office m) i after_ending refl) in
-        good_office m w w' i after_ending g li (subst Sound (sym e) d.0) (same-votes after_ending refl refl (r_closed p))
-        (subst (λ (s : Net). (a : ℕ) → a < m.n → Rec s a (at1 (office m) i after_ending a)) (sym e)
-        (rec_at (does (net m w) (close i)) after_ending refl d.1 (close_rec p ok)))
+        good_at w' after_ending (does (net m w) (close i)) li e d (close_rec p ok) (same-votes after_ending refl refl (r_closed p))
       where
         t_closed : terminating (office m i) ≡ true → t_of after_ending ≡ suc (t_of (office m i))
         t_closed p = ap suc (sym (t_is p))
