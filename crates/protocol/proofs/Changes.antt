@@ -18,8 +18,7 @@ use Rattle.protocol.specs.Steps.{heard_in, closed, with_office, after}
 use Rattle.protocol.proofs.Updates.{at1_is}
 use Rattle.protocol.specs.History.{drops_out, votes, closes, enters, closing_gives, gives}
 use Rattle.protocol.proofs.Sums.{some_at, told_by, closed-yes, closed-no}
-use Rattle.protocol.proofs.Votes.{heard-yes, heard-no}
-use Rattle.protocol.proofs.View as view
+use Rattle.protocol.proofs.Votes.{heard_set}
 use Rattle.protocol.proofs.View.{Good, office_set}
 use Rattle.protocol.proofs.Guards as asked
 use Rattle.protocol.proofs.Steps.{up_ending}
@@ -143,14 +142,14 @@ own_yes : (m : Model) (w : ℕ → ℕ → TermWord) → Good m w → (i : ℕ) 
 own_yes m w g i x = elim (or_cases _ _ (sym (closed-yes m.n i (office m i).knowledge (heard_in m.voting i (office m i).round) i) ∙ x)) [
   | inl own ↦ own
   | inr other ↦ let (l, ll, y) = some_at m.n (λ l. member (told_by (heard_in m.voting i (office m i).round) l).yes i) other in
-      (g.fair.yes_own l i (g.fair.in_yes l i (office m i).round i (heard-yes (view.votes m) (m.voting.places l i (office m i).round) i y))).1
+      (g.fair.yes_own l i (g.fair.in_yes l i (office m i).round i (heard_set (λ k. k.yes) refl (m.voting.places l i (office m i).round) i y))).1
 ]
 
 own_no : (m : Model) (w : ℕ → ℕ → TermWord) → Good m w → (i : ℕ) → member (learns m.n i (office m i).knowledge (heard_in m.voting i (office m i).round)).no i ≡ true → member (office m i).knowledge.no i ≡ true
 own_no m w g i x = elim (or_cases _ _ (sym (closed-no m.n i (office m i).knowledge (heard_in m.voting i (office m i).round) i) ∙ x)) [
   | inl own ↦ own
   | inr other ↦ let (l, ll, y) = some_at m.n (λ l. member (told_by (heard_in m.voting i (office m i).round) l).no i) other in
-      (g.fair.no_own l i (g.fair.in_no l i (office m i).round i (heard-no (view.votes m) (m.voting.places l i (office m i).round) i y))).1
+      (g.fair.no_own l i (g.fair.in_no l i (office m i).round i (heard_set (λ k. k.no) refl (m.voting.places l i (office m i).round) i y))).1
 ]
 
 -- who has itself in f, its yes or its no, had it before, or votes v now

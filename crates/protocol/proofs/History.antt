@@ -19,7 +19,7 @@ use Rattle.protocol.specs.Steps.{heard_in, after, step, run}
 use Rattle.protocol.specs.History.{drops_out, votes, closes, enters, accepted, made, dropped, voted, closings_since, closings, closing_gives, gives, held, DecidesInTermination}
 use Rattle.protocol.specs.History.{entered}
 use Rattle.protocol.proofs.Sums.{some_at, some-member, told_by, closed-no}
-use Rattle.protocol.proofs.Votes.{heard-no, none_before}
+use Rattle.protocol.proofs.Votes.{heard_set, none_before}
 use Rattle.protocol.proofs.View as view
 use Rattle.protocol.proofs.View.{Good}
 use Rattle.protocol.proofs.Guards as asked
@@ -199,7 +199,7 @@ module _ (m : Model) (w : ℕ → ℕ → TermWord) (g : Good m w) (i : ℕ) whe
   no-from x e = elim (or_cases _ _ (sym (closed-no m.n i (office m i).knowledge (heard_in m.voting i (office m i).round) x) ∙ e)) [
     | inl own ↦ (i, own)
     | inr told ↦ let (l, ll, y) = some_at m.n (λ l. member (told_by (heard_in m.voting i (office m i).round) l).no x) told in
-        (l, g.fair.in_no l i (office m i).round x (heard-no (view.votes m) (m.voting.places l i (office m i).round) x y))
+        (l, g.fair.in_no l i (office m i).round x (heard_set (λ k. k.no) refl (m.voting.places l i (office m i).round) x y))
   ]
 
   both_stay : (d d' : Option Decision) → d ≢ None → (d ≡ to_abort → d' ≡ to_commit → ⊥) → (d ≡ to_commit → d' ≡ to_abort → ⊥) → latest d' d ≡ d

@@ -1,7 +1,7 @@
 -- Laws of tests and counts below a number, and of the sums of words. Assumes nothing.
 use Rattle.std.proofs.Common.{◌≡◌, ℕ, zero, suc, ◌<◌, ◌≤◌, Bool, true, false, ◌&&◌, ◌||◌, eqb, ltb, ◌≢◌, ◌⊎◌, Some, None, Option, sym, refl, ap, ◌∙◌, inl, inr, arith}
 use lib.Bits.{or_comm, or_self}
-use Rattle.std.proofs.lemmas.Bool.{cases_eq, cases_Bool}
+use Rattle.std.proofs.lemmas.Bool.{cases_eq, cases_Bool, cond_both}
 use Rattle.words.specs.declared.knowledge.Knowledge.{Knowledge}
 use Rattle.words.specs.declared.offices.Offices.{Offices}
 use Rattle.words.specs.declared.term.TermWord.{TermWord}
@@ -173,19 +173,18 @@ sum_set f z u (suc n) q j =
     ∙ ap (λ b. b || member (f (told_by q n)) j) (sum_set f z u n q j) ∙ or_swap (some n (λ l. member (f (told_by q l)) j)) (member (f (told_by q n)) j)
 
 module _ (n i : ℕ) (own : Knowledge) (q : Heard Knowledge) (j : ℕ) where
+  -- one of the two sets, f, that no readying changes
+  closed_set : (f : Knowledge → Offices) → f knows_nothing ≡ none → ((a b : Knowledge) → f (pooled a b) ≡ union (f a) (f b)) → ((k : Knowledge) → f (readied n i k) ≡ f k) → member (f (learns n i own q)) j ≡ (member (f own) j || some n (λ l. member (f (told_by q l)) j))
+  unfolding total
+  closed_set f z u kept = ap (λ (s : Offices). member s j) (kept (total knows_nothing pooled n own q) ∙ u own (sum_knowledge n q)) ∙ member_union (f own) (f (sum_knowledge n q)) j ∙ ap (λ b. member (f own) j || b) (sum_set f z u n q j)
+
   pub closed-yes : member (learns n i own q).yes j ≡ (member own.yes j || some n (λ l. member (told_by q l).yes j))
-  unfolding readied total
-  closed-yes = kept ∙ member_union own.yes (sum_knowledge n q).yes j ∙ ap (λ b. member own.yes j || b) (sum_set (λ k. k.yes) refl (λ a b. refl) n q j)
-    where
-      kept : member (learns n i own q).yes j ≡ member (total knows_nothing pooled n own q).yes j
-      kept = grind arith
+  unfolding readied
+  closed-yes = closed_set (λ k. k.yes) refl (λ a b. refl) (λ k. cond_both (full n k.yes) _ _ (λ (x : Knowledge). x.yes ≡ k.yes) (λ _. refl) (λ _. refl))
 
   pub closed-no : member (learns n i own q).no j ≡ (member own.no j || some n (λ l. member (told_by q l).no j))
-  unfolding readied total
-  closed-no = kept ∙ member_union own.no (sum_knowledge n q).no j ∙ ap (λ b. member own.no j || b) (sum_set (λ k. k.no) refl (λ a b. refl) n q j)
-    where
-      kept : member (learns n i own q).no j ≡ member (total knows_nothing pooled n own q).no j
-      kept = grind arith
+  unfolding readied
+  closed-no = closed_set (λ k. k.no) refl (λ a b. refl) (λ k. cond_both (full n k.yes) _ _ (λ (x : Knowledge). x.no ≡ k.no) (λ _. refl) (λ _. refl))
 
   pub closed-ready : member (learns n i own q).ready j ≡ ((member own.ready j || some n (λ l. member (told_by q l).ready j)) || (full n (learns n i own q).yes && (eqb j i && ltb i 16)))
   unfolding readied total

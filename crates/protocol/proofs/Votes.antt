@@ -1,5 +1,5 @@
 -- Each move of the voting keeps what Fair says. Assumes nothing.
-use Rattle.std.proofs.Common.{◌≡◌, ℕ, suc, ◌+◌, ◌-◌, ◌<◌, ◌≤◌, Bool, true, false, ◌&&◌, ◌||◌, eqb, ltb, ◌⊎◌, Option, sym, ap, ◌∙◌, subst, inl, inr, arith}
+use Rattle.std.proofs.Common.{◌≡◌, ℕ, suc, ◌+◌, ◌-◌, ◌<◌, ◌≤◌, Bool, true, false, ◌&&◌, ◌||◌, eqb, ltb, ◌⊎◌, Option, sym, refl, ap, ◌∙◌, subst, inl, inr, arith}
 use Rattle.std.proofs.lemmas.Bool.Decides.{nat_tests}
 use Rattle.std.proofs.lemmas.Bool.{both_ways, cases_eq, cases_Bool, or_cases, or_left, or_right}
 use Rattle.words.specs.declared.knowledge.Knowledge.{Knowledge}
@@ -20,27 +20,23 @@ ruleset kept = (arith, nat_tests, at1_is, at3_is)
 
 ruleset sets = (kept, member-added, member-none)
 
-module _ (u : Votes) where
-  pub heard-yes : (p : Place Knowledge) (j : ℕ) → member (word_or knows_nothing (heard p)).yes j ≡ true → member (content p).yes j ≡ true
-  heard-yes p j e = let z = member-none j in grind arith
+-- who is in a set f of what was heard is in that set of the word in the place
+pub heard_set : (f : Knowledge → Offices) → f knows_nothing ≡ none → (p : Place Knowledge) (j : ℕ) → member (f (word_or knows_nothing (heard p))) j ≡ true → member (f (content p)) j ≡ true
+heard_set f z (Waiting x) j e = absurd (both_ways _ (member-none j) (ap (λ (s : Offices). member s j) (sym z) ∙ e))
+heard_set f z _ j e = e
 
+module _ (u : Votes) where
   grows_yes : (v : Move) → Can u v → (a j : ℕ) → has_yes u a j ≡ true → has_yes (moved u v) a j ≡ true
   grows_yes (yes i) g a j e = grind sets
   grows_yes (no i) g a j e = grind sets
   grows_yes (close i) g a j e = let c = closed-yes u.n i (u.knowledge i) (λ l. heard (u.place l i (u.r i))) j in grind kept
   grows_yes _ g a j e = e
 
-  pub heard-no : (p : Place Knowledge) (j : ℕ) → member (word_or knows_nothing (heard p)).no j ≡ true → member (content p).no j ≡ true
-  heard-no p j e = let z = member-none j in grind arith
-
   grows_no : (v : Move) → Can u v → (a j : ℕ) → has_no u a j ≡ true → has_no (moved u v) a j ≡ true
   grows_no (yes i) g a j e = grind sets
   grows_no (no i) g a j e = grind sets
   grows_no (close i) g a j e = let c = closed-no u.n i (u.knowledge i) (λ l. heard (u.place l i (u.r i))) j in grind kept
   grows_no _ g a j e = e
-
-  pub heard-ready : (p : Place Knowledge) (j : ℕ) → member (word_or knows_nothing (heard p)).ready j ≡ true → member (content p).ready j ≡ true
-  heard-ready p j e = let z = member-none j in grind arith
 
   grows_ready : (v : Move) → Can u v → (a j : ℕ) → has_ready u a j ≡ true → has_ready (moved u v) a j ≡ true
   grows_ready (yes i) g a j e = grind sets
@@ -57,7 +53,7 @@ module _ (u : Votes) where
     | inl (s, q) ↦ elim (or_cases _ _ (sym (closed-yes u.n i (u.knowledge i) (λ l. heard (u.place l i (u.r i))) j) ∙ ap (λ k. member k.yes j) (sym q) ∙ e)) [
       | inl own ↦ (i, own)
       | inr other ↦ let (l, ll, x) = some_at u.n (λ l. member (told_by (λ l. heard (u.place l i (u.r i))) l).yes j) other in
-          (l, f.in_yes l i (u.r i) j (heard-yes (u.place l i (u.r i)) j x))
+          (l, f.in_yes l i (u.r i) j (heard_set (λ k. k.yes) refl (u.place l i (u.r i)) j x))
     ]
   ])
   yes_origin f _ g a j e = inr (a, e)
@@ -71,7 +67,7 @@ module _ (u : Votes) where
     | inl (s, q) ↦ elim (or_cases _ _ (sym (closed-no u.n i (u.knowledge i) (λ l. heard (u.place l i (u.r i))) j) ∙ ap (λ k. member k.no j) (sym q) ∙ e)) [
       | inl own ↦ (i, own)
       | inr other ↦ let (l, ll, x) = some_at u.n (λ l. member (told_by (λ l. heard (u.place l i (u.r i))) l).no j) other in
-          (l, f.in_no l i (u.r i) j (heard-no (u.place l i (u.r i)) j x))
+          (l, f.in_no l i (u.r i) j (heard_set (λ k. k.no) refl (u.place l i (u.r i)) j x))
     ]
   ])
   no_origin f _ g a j e = inr (a, e)
@@ -87,7 +83,7 @@ module _ (u : Votes) where
       | inl old ↦ inr (elim (or_cases _ _ old) [
         | inl own ↦ (i, own)
         | inr other ↦ let (l, ll, x) = some_at u.n (λ l. member (told_by (λ l. heard (u.place l i (u.r i))) l).ready j) other in
-            (l, f.in_ready l i (u.r i) j (heard-ready (u.place l i (u.r i)) j x))
+            (l, f.in_ready l i (u.r i) j (heard_set (λ k. k.ready) refl (u.place l i (u.r i)) j x))
       ])
     ]
   ]
@@ -139,29 +135,11 @@ module _ (u : Votes) where
       differ : (v : Move) (j : ℕ) → v ≡ yes j → v ≡ no j → ⊥
       differ v j p q = grind arith
 
-  in_yes' : Fair u → (v : Move) → Can u v → (s d k j : ℕ) → member (content ((moved u v).place s d k)).yes j ≡ true → has_yes (moved u v) s j ≡ true
-  in_yes' f v g s d k j e = grows_yes v g s j (before v e)
-    where
-      before : (v : Move) → member (content ((moved u v).place s d k)).yes j ≡ true → has_yes u s j ≡ true
-      before (say i b) e = let q = f.in_yes s d k j in grind kept
-      before (hear i b) e = let q = f.in_yes s d k j in grind kept
-      before _ e = f.in_yes s d k j e
-
-  in_no' : Fair u → (v : Move) → Can u v → (s d k j : ℕ) → member (content ((moved u v).place s d k)).no j ≡ true → has_no (moved u v) s j ≡ true
-  in_no' f v g s d k j e = grows_no v g s j (before v e)
-    where
-      before : (v : Move) → member (content ((moved u v).place s d k)).no j ≡ true → has_no u s j ≡ true
-      before (say i b) e = let q = f.in_no s d k j in grind kept
-      before (hear i b) e = let q = f.in_no s d k j in grind kept
-      before _ e = f.in_no s d k j e
-
-  in_ready' : Fair u → (v : Move) → Can u v → (s d k j : ℕ) → member (content ((moved u v).place s d k)).ready j ≡ true → has_ready (moved u v) s j ≡ true
-  in_ready' f v g s d k j e = grows_ready v g s j (before v e)
-    where
-      before : (v : Move) → member (content ((moved u v).place s d k)).ready j ≡ true → has_ready u s j ≡ true
-      before (say i b) e = let q = f.in_ready s d k j in grind kept
-      before (hear i b) e = let q = f.in_ready s d k j in grind kept
-      before _ e = f.in_ready s d k j e
+  -- a set f that its sender has of every word before a move, it has of every word after it
+  in_place : (f : Knowledge → Offices) → ((s d k j : ℕ) → member (f (content (u.place s d k))) j ≡ true → member (f (u.knowledge s)) j ≡ true) → (v : Move) (s d k j : ℕ) → member (f (content ((moved u v).place s d k))) j ≡ true → member (f (u.knowledge s)) j ≡ true
+  in_place f own (say i b) s d k j e = let q = own s d k j in grind kept
+  in_place f own (hear i b) s d k j e = let q = own s d k j in grind kept
+  in_place f own _ s d k j e = own s d k j e
 
   blank' : (v : Move) → Can u v → (i : ℕ) → (u.voted i ≡ false → (u.knowledge i ≡ knows_nothing) × (u.r i ≤ 1)) → (moved u v).voted i ≡ false → ((moved u v).knowledge i ≡ knows_nothing) × ((moved u v).r i ≤ 1)
   blank' (say a c) g i b e = b e
@@ -383,9 +361,9 @@ module _ (u : Votes) where
     no_own = no_own' f c v g;
     ready_own = ready_own' f v g;
     one_vote = one_vote' f v g;
-    in_yes = in_yes' f v g;
-    in_no = in_no' f v g;
-    in_ready = in_ready' f v g;
+    in_yes = λ s d k j e. grows_yes v g s j (in_place (λ k. k.yes) f.in_yes v s d k j e);
+    in_no = λ s d k j e. grows_no v g s j (in_place (λ k. k.no) f.in_no v s d k j e);
+    in_ready = λ s d k j e. grows_ready v g s j (in_place (λ k. k.ready) f.in_ready v s d k j e);
     lies = λ s d k. lies' v g s d k (f.lies s d k);
     spoke = spoke' f v g;
     took = took' f v g;
