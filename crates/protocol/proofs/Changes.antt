@@ -1,7 +1,8 @@
 -- What one call does to the records. Assumes nothing.
 use Rattle.std.proofs.Common.{◌≡◌, ℕ, suc, ◌+◌, ◌<◌, Bool, true, false, cond, not, ◌&&◌, ◌||◌, eqb, ◌≢◌, ◌⊎◌, Some, None, Option, sym, refl, ap, ◌∙◌, inl, inr, arith}
 use Rattle.std.proofs.lemmas.Bool.Decides.{nat_tests}
-use Rattle.std.proofs.lemmas.Bool.{both_ways, cases_eq, cond-true, cond-false, cond_both, and_left, eqb-false, eq-eqb, ne_eqb, and_from, or_cases}
+use Rattle.std.proofs.lemmas.Bool.{both_ways, cases_eq, cond-true, cond-false, cond_both, and_left, or_right, eqb-false, eq-eqb, ne_eqb, and_from, or_cases}
+use Rattle.std.proofs.Math.Bool.{or-false}
 use Rattle.words.specs.declared.knowledge.Decision.{Decision}
 use Rattle.words.specs.declared.knowledge.Knowledge.{Knowledge}
 use Rattle.words.specs.declared.offices.Offices.{Offices}
@@ -182,15 +183,9 @@ enters_other (Notice i j) a ne = not_acting i a ne
 enters_other (Join i) a ne = not_acting i a ne
 enters_other _ a ne = refl
 
-or_false : (b : Bool) → b ≡ (b || false)
-or_false b = grind arith
-
-or_true : (b c : Bool) → c ≡ true → true ≡ (b || c)
-or_true b c e = grind arith
-
 pub phase_new : (m : Model) (c : Call) → terminating (record_after m c) ≡ (terminating (office m (actor c)) || enters (actor c) c)
-phase_new m (Vote i v) = cond_both (eqb v 1) _ _ (λ (o : Office). terminating o ≡ (terminating (office m i) || false)) (λ _. or_false _) (λ _. or_false _)
-phase_new m (Close i) = cond_both (terminating (office m i)) _ _ (λ (o : Office). terminating o ≡ (terminating (office m i) || false)) (λ p. sym p ∙ or_false _) (λ _. or_false _)
-phase_new m (Notice i j) = cond_both (terminating (office m i)) _ _ (λ (o : Office). terminating o ≡ (terminating (office m i) || eqb i i)) (λ p. p ∙ or_true _ _ (eq-eqb i i refl)) (λ _. or_true _ _ (eq-eqb i i refl))
-phase_new m (Join i) = or_true _ _ (eq-eqb i i refl)
-phase_new m _ = or_false _
+phase_new m (Vote i v) = cond_both (eqb v 1) _ _ (λ (o : Office). terminating o ≡ (terminating (office m i) || false)) (λ _. sym (or-false _)) (λ _. sym (or-false _))
+phase_new m (Close i) = cond_both (terminating (office m i)) _ _ (λ (o : Office). terminating o ≡ (terminating (office m i) || false)) (λ p. sym p ∙ sym (or-false _)) (λ _. sym (or-false _))
+phase_new m (Notice i j) = cond_both (terminating (office m i)) _ _ (λ (o : Office). terminating o ≡ (terminating (office m i) || eqb i i)) (λ p. p ∙ sym (or_right _ _ (eq-eqb i i refl))) (λ _. sym (or_right _ _ (eq-eqb i i refl)))
+phase_new m (Join i) = sym (or_right _ _ (eq-eqb i i refl))
+phase_new m _ = sym (or-false _)

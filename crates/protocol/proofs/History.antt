@@ -1,6 +1,7 @@
 -- What the records show is what the accepted calls of the list say. Assumes nothing.
 use Rattle.std.proofs.Common.{◌≡◌, ℕ, suc, ◌+◌, ◌<◌, Bool, true, false, cond, not, ◌&&◌, ◌||◌, eqb, ◌≢◌, ◌⊎◌, List, [], ◌∷◌, ◌++◌, Some, None, Option, sym, refl, ap, ◌∙◌, ap₂, inl, inr, arith}
 use Rattle.std.proofs.lemmas.Bool.{false≢true, both_ways, cond-true, cond-false, cond_both, eqb-true, eq-eqb, and_left, and_right, or_left, or_right, or_cases}
+use Rattle.std.proofs.Math.Bool.{and-true, or-false, or_assoc}
 use Rattle.words.specs.declared.knowledge.Decision.{Decision}
 use Rattle.words.specs.declared.knowledge.Knowledge.{Knowledge}
 use Rattle.words.specs.declared.offices.Offices.{Offices}
@@ -71,10 +72,7 @@ step_standing m f c = step_at m f c (λ (a : ℕ) (o : Office). o.standing ≡ (
 
 pub standing_shown : (m : Model) → Fine m → (h : List Call) (a : ℕ) → (office (run m h) a).standing ≡ ((office m a).standing && not (dropped m h a))
 unfolding run made
-standing_shown m f [] a = and_true (office m a).standing
-  where
-    and_true : (b : Bool) → b ≡ (b && not false)
-    and_true b = grind arith
+standing_shown m f [] a = sym (and-true _)
 standing_shown m f (c ∷ h) a = standing_shown (step m c) (fine_step m f c) h a ∙ ap (λ b. b && not (dropped (step m c) h a)) (step_standing m f c a) ∙ regroup (office m a).standing (accepted m c && drops_out a c) (dropped (step m c) h a)
   where
     regroup : (a b c : Bool) → ((a && not b) && not c) ≡ (a && not (b || c))
@@ -125,14 +123,8 @@ step_phase m f c = step_at m f c (λ (a : ℕ) (o : Office). terminating o ≡ (
 
 pub phase_shown : (m : Model) → Fine m → (h : List Call) (a : ℕ) → terminating (office (run m h) a) ≡ (terminating (office m a) || entered m h a)
 unfolding run made
-phase_shown m f [] a = or_false (terminating (office m a))
-  where
-    or_false : (b : Bool) → b ≡ (b || false)
-    or_false b = grind arith
-phase_shown m f (c ∷ h) a = phase_shown (step m c) (fine_step m f c) h a ∙ ap (λ b. b || entered (step m c) h a) (step_phase m f c a) ∙ regroup (terminating (office m a)) (accepted m c && enters a c) (entered (step m c) h a)
-  where
-    regroup : (a b c : Bool) → ((a || b) || c) ≡ (a || (b || c))
-    regroup a b c = grind arith
+phase_shown m f [] a = sym (or-false _)
+phase_shown m f (c ∷ h) a = phase_shown (step m c) (fine_step m f c) h a ∙ ap (λ b. b || entered (step m c) h a) (step_phase m f c a) ∙ or_assoc (terminating (office m a)) (accepted m c && enters a c) (entered (step m c) h a)
 
 -- the termination closings, by the phase that the record shows
 unfoldable ended : Model → List Call → ℕ → ℕ

@@ -2,6 +2,7 @@
 use Rattle.std.proofs.Common.{◌≡◌, ℕ, zero, suc, ◌<◌, ◌≤◌, Bool, true, false, ◌&&◌, ◌||◌, eqb, ltb, ◌≢◌, ◌⊎◌, Some, None, Option, sym, refl, ap, ◌∙◌, inl, inr, arith}
 use lib.Bits.{or_comm, or_self}
 use Rattle.std.proofs.lemmas.Bool.{cases_eq, cases_Bool, cond_both}
+use Rattle.std.proofs.Math.Bool as bools
 use Rattle.words.specs.declared.knowledge.Knowledge.{Knowledge}
 use Rattle.words.specs.declared.offices.Offices.{Offices}
 use Rattle.words.specs.declared.term.TermWord.{TermWord}
@@ -161,16 +162,13 @@ next_knowledge = sum_next knows_nothing pooled (λ x y z. simp or_assoc) (λ x y
 abbrev pub told_by : Heard Knowledge → ℕ → Knowledge
 told_by q l = word_or knows_nothing (q l)
 
-or_swap : (a b : Bool) → (a || b) ≡ (b || a)
-or_swap a b = grind arith
-
 -- one of the three sets, f, of the sum
 sum_set : (f : Knowledge → Offices) → f knows_nothing ≡ none → ((a b : Knowledge) → f (pooled a b) ≡ union (f a) (f b)) → (n : ℕ) (q : Heard Knowledge) (j : ℕ) → member (f (sum_knowledge n q)) j ≡ some n (λ l. member (f (told_by q l)) j)
 unfolding words some
 sum_set f z u zero q j = ap (λ (s : Offices). member s j) z ∙ member-none j
 sum_set f z u (suc n) q j =
     ap (λ k. member (f k) j) (next_knowledge n q) ∙ ap (λ (s : Offices). member s j) (u (sum_knowledge n q) (told_by q n)) ∙ member_union (f (sum_knowledge n q)) (f (told_by q n)) j
-    ∙ ap (λ b. b || member (f (told_by q n)) j) (sum_set f z u n q j) ∙ or_swap (some n (λ l. member (f (told_by q l)) j)) (member (f (told_by q n)) j)
+    ∙ ap (λ b. b || member (f (told_by q n)) j) (sum_set f z u n q j) ∙ bools.or_comm (some n (λ l. member (f (told_by q l)) j)) (member (f (told_by q n)) j)
 
 module _ (n i : ℕ) (own : Knowledge) (q : Heard Knowledge) (j : ℕ) where
   -- one of the two sets, f, that no readying changes

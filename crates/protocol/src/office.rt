@@ -1,7 +1,7 @@
 // The record of an office.
 use words::{Decision, Knowledge, Offices, TermWord};
 
-// What an office in the termination says.
+// What an office in the termination says (in the field's terms, the state messages that it sends).
 #[derive(Clone, Copy, PartialEq, Eq)]
 pub struct Spoken {
     // its word of this termination round
@@ -18,6 +18,7 @@ pub struct Office {
     pub standing: bool,
     // its words of the termination, once it has entered it; until then it is in voting
     pub termination: Option<Spoken>,
+    // it has voted
     pub voted: bool,
     // the round of its phase that it is in, from 1
     pub round: u8,
