@@ -1,8 +1,7 @@
 -- Laws of tests and counts below a number, and of the sums of words. Assumes nothing.
-use Rattle.std.proofs.Common.{◌≡◌, ℕ, zero, suc, ◌<◌, ◌≤◌, Bool, true, false, ◌&&◌, ◌||◌, eqb, ltb, ◌≢◌, ◌⊎◌, Some, None, Option, sym, refl, ap, ◌∙◌, inl, inr, arith}
+use Rattle.std.proofs.Common.{◌≡◌, ℕ, zero, suc, ◌<◌, ◌≤◌, Bool, true, false, ◌&&◌, ◌||◌, eqb, ltb, ◌≢◌, ◌⊎◌, Some, None, Option, List, [], ◌∷◌, ◌++◌, sym, refl, ap, ◌∙◌, inl, inr, arith}
 use lib.Bits.{or_comm, or_self}
-use Rattle.std.proofs.lemmas.Bool.{cases_eq, cases_Bool, cond_both}
-use Rattle.std.proofs.Math.Bool as bools
+use Rattle.std.proofs.lemmas.Bool.{both_ways, cases_eq, cases_Bool, cond_both, or_cases, or_left, or_right}
 use Rattle.words.specs.declared.knowledge.Knowledge.{Knowledge}
 use Rattle.words.specs.declared.offices.Offices.{Offices}
 use Rattle.words.specs.declared.term.TermWord.{TermWord}
@@ -14,7 +13,6 @@ use Rattle.words.specs.Terms.{higher}
 use Rattle.words.proofs.Below.{every_decides, some_decides}
 use Rattle.words.specs.MasksLemmas.{or_assoc, bit-bit_or, bit-none, some-bit}
 use Rattle.words.proofs.Members.{member-none, member-added}
-use Rattle.words.proofs.Sums.{sum_append}
 use Rattle.protocol.specs.Hearing.{Heard, listed, words, total}
 use Rattle.protocol.specs.History.{count}
 use Rattle.protocol.specs.Letters.{N, C, A}
@@ -26,19 +24,34 @@ every_at n p = (every_decides p n).0
 pub all_below : (n : ℕ) (p : ℕ → Bool) → ((l : ℕ) → l < n → p l ≡ true) → every n p ≡ true
 all_below n p = (every_decides p n).1
 
-pub every_not : (n : ℕ) (p : ℕ → Bool) → every n p ≡ false → (l : ℕ) × (l < n) × (p l ≡ false)
-unfolding every
-every_not zero p h = absurd (grind arith)
-every_not (suc n) p h = elim (cases_Bool (p n)) [
-  | inl e ↦ let (l, lt, x) = every_not n p (grind arith) in (l, omega arith, x)
-  | inr e ↦ (n, omega arith, e)
+-- a test of the numbers below n finds one that fails, or none fails
+find_not : (n : ℕ) (p : ℕ → Bool) → ((l : ℕ) × (l < n) × (p l ≡ false)) ⊎ ((l : ℕ) → l < n → p l ≡ true)
+find_not zero p = inr (λ l lt. absurd (omega arith))
+find_not (suc n) p = elim (find_not n p) [
+  | inl (l, lt, e) ↦ inl (l, omega arith, e)
+  | inr all ↦ elim (cases_Bool (p n)) [
+    | inl e ↦ inr (λ l lt. elim (cases_eq l n) [ inl q ↦ rw q e | inr ne ↦ all l (omega arith) ])
+    | inr e ↦ inl (n, omega arith, e)
+  ]
 ]
+
+pub every_not : (n : ℕ) (p : ℕ → Bool) → every n p ≡ false → (l : ℕ) × (l < n) × (p l ≡ false)
+every_not n p h = elim (find_not n p) [ inl x ↦ x | inr all ↦ absurd (both_ways _ h (all_below n p all)) ]
 
 pub some_at : (n : ℕ) (p : ℕ → Bool) → some n p ≡ true → (l : ℕ) × (l < n) × (p l ≡ true)
 some_at n p = (some_decides p n).0
 
 pub some-from : (n : ℕ) (p : ℕ → Bool) (l : ℕ) → l < n → p l ≡ true → some n p ≡ true
 some-from n p l lt e = (some_decides p n).1 (l, lt, e)
+
+-- one number more
+some_suc : (n : ℕ) (p : ℕ → Bool) → some (suc n) p ≡ (some n p || p n)
+some_suc n p = same_truth _ _
+    (λ e. let (l, lt, x) = some_at (suc n) p e in elim (cases_eq l n) [ inl q ↦ or_right _ _ (rw q at x) | inr ne ↦ or_left _ _ (some-from n p l (omega arith) x) ])
+    (λ e. elim (or_cases (some n p) (p n) e) [ inl y ↦ let (l, lt, x) = some_at n p y in some-from (suc n) p l (omega arith) x | inr x ↦ some-from (suc n) p n (omega arith) x ])
+  where
+    same_truth : (a b : Bool) → (a ≡ true → b ≡ true) → (b ≡ true → a ≡ true) → a ≡ b
+    same_truth a b x y = grind arith
 
 pub count_le : (n : ℕ) (p q : ℕ → Bool) → ((l : ℕ) → l < n → p l ≡ true → q l ≡ true) → count n p ≤ count n q
 unfolding count
@@ -105,13 +118,17 @@ word_or d (Some w) = w
 -- one office more in the sum of what was heard
 module _ {W : Type 0} (nil : W) (join : W → W → W)
     (assoc : (x y z : W) → join (join x y) z ≡ join x (join y z)) (comm : (x y : W) → join x y ≡ join y x) (idem : (x : W) → join x x ≡ x) (unit : (x : W) → join nil x ≡ x) where
+  sum_append : (xs ys : List W) → sum_of nil join (xs ++ ys) ≡ join (sum_of nil join xs) (sum_of nil join ys)
+  sum_append [] ys = sym (unit _)
+  sum_append (x ∷ xs) ys = ap (join x) (sum_append xs ys) ∙ sym (assoc x _ _)
+
   sum_listed : (x : Option W) → sum_of nil join (listed x) ≡ word_or nil x
   sum_listed None = refl
   sum_listed (Some w) = comm w nil ∙ unit w
 
   pub sum_next : (n : ℕ) (q : Heard W) → sum_of nil join (words (suc n) q) ≡ join (sum_of nil join (words n q)) (word_or nil (q n))
   unfolding words
-  sum_next n q = sum_append nil join assoc comm idem unit (words n q) (listed (q n)) ∙ ap (join (sum_of nil join (words n q))) (sum_listed (q n))
+  sum_next n q = sum_append (words n q) (listed (q n)) ∙ ap (join (sum_of nil join (words n q))) (sum_listed (q n))
 
 -- the sum of the termination words that were heard
 abbrev pub sum_term : ℕ → Heard TermWord → TermWord
@@ -168,7 +185,7 @@ unfolding words some
 sum_set f z u zero q j = ap (λ (s : Offices). member s j) z ∙ member-none j
 sum_set f z u (suc n) q j =
     ap (λ k. member (f k) j) (next_knowledge n q) ∙ ap (λ (s : Offices). member s j) (u (sum_knowledge n q) (told_by q n)) ∙ member_union (f (sum_knowledge n q)) (f (told_by q n)) j
-    ∙ ap (λ b. b || member (f (told_by q n)) j) (sum_set f z u n q j) ∙ bools.or_comm (some n (λ l. member (f (told_by q l)) j)) (member (f (told_by q n)) j)
+    ∙ ap (λ b. b || member (f (told_by q n)) j) (sum_set f z u n q j) ∙ sym (some_suc n (λ l. member (f (told_by q l)) j))
 
 module _ (n i : ℕ) (own : Knowledge) (q : Heard Knowledge) (j : ℕ) where
   -- one of the two sets, f, that no readying changes
