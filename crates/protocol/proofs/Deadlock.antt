@@ -1,11 +1,10 @@
 -- No deadlock, in one state. Assumes nothing.
 use Rattle.std.proofs.Common.{◌≡◌, ℕ, zero, suc, ◌+◌, ◌-◌, ◌<◌, ◌≤◌, Bool, true, false, cond, not, ◌&&◌, ◌||◌, eqb, ◌≢◌, ◌⊎◌, None, Option, sym, refl, ap, ◌∙◌, subst, inl, inr, arith}
 use Rattle.std.proofs.lemmas.Bool.Decides.{nat_tests}
-use Rattle.std.proofs.lemmas.Bool.{both_ways, not-true, cases_eq, cases_lt, cases_Bool, cond-true, cond-false, eqb-false, le-leb, and_from, or_cases}
+use Rattle.std.proofs.lemmas.Bool.{both_ways, not-true, cases_eq, cases_lt, cases_Bool, cond-true, cond-false, eqb-false, le-leb, and_from}
 use Rattle.words.specs.declared.knowledge.Class.{Class}
 use Rattle.words.specs.declared.knowledge.Decision.{Decision}
 use Rattle.words.specs.declared.knowledge.Knowledge.{Knowledge}
-use Rattle.words.specs.declared.offices.Offices.{Offices}
 use Rattle.words.specs.declared.term.TermWord.{TermWord}
 use Rattle.words.specs.Below.{every}
 use Rattle.words.specs.Classes.{decision_of}
@@ -24,7 +23,7 @@ use Rattle.protocol.specs.Model.{Mail, Model, office, plan_round, voting_rounds}
 use Rattle.protocol.specs.Records.{terminating, word, undecided}
 use Rattle.protocol.specs.Rules.{class, first_word}
 use Rattle.protocol.specs.History.{is_drop_out}
-use Rattle.protocol.proofs.Sums.{every_at, all_below, every_not, some_at, some-from, full_from, count_all, no_member}
+use Rattle.protocol.proofs.Sums.{every_at, all_below, every_not, some_at, some-from, full_from, count_all, in_one}
 use Rattle.protocol.proofs.Net.{Net, fits1, fits2, fits3, Own, Done}
 use Rattle.protocol.proofs.NetWords.{word_C, says_A_next}
 use Rattle.protocol.proofs.NetDead.{none-N, hears_A, after-C}
@@ -94,14 +93,7 @@ some_waits p j i q = let (k, _, x) = some_at p.reach (λ k. waits (p.places j i 
 
 agrees_known : (p : Place Knowledge) (x : Knowledge) → (p ≡ Empty) ⊎ (content p ≡ x) → agrees same_knowledge x p ≡ true
 agrees_known Empty x o = refl
-agrees_known (Waiting v) x o = same v x o
-  where
-    same : (v x : Knowledge) → (Waiting v ≡ Empty) ⊎ (v ≡ x) → same_knowledge v x ≡ true
-    same v x o = grind (arith, nat_tests)
-agrees_known (Taken v) x o = same v x o
-  where
-    same : (v x : Knowledge) → (Taken v ≡ Empty) ⊎ (v ≡ x) → same_knowledge v x ≡ true
-    same v x o = grind (arith, nat_tests)
+agrees_known _ x o = grind (arith, nat_tests)
 
 lies_now : (u : Votes) (s d : ℕ) → 1 ≤ u.r s → Lies u s d (u.r s) → (u.place s d (u.r s) ≡ Empty) ⊎ (content (u.place s d (u.r s)) ≡ u.knowledge s)
 lies_now u s d r1 x = grind arith
@@ -122,9 +114,6 @@ class-some n k a e = grind (arith, nat_tests)
 class-ready : (n : ℕ) (k : Knowledge) → full n k.ready ≡ true → decision_of (class n k) ≢ None
 unfolding class
 class-ready n k a e = grind (arith, nat_tests)
-
-in_one : (s : Offices) (x : ℕ) → s.mask ≡ 0 → (b : Bool) → (b || member s x) ≡ true → b ≡ true
-in_one s x e b h = elim (or_cases b (member s x) h) [ inl y ↦ y | inr m ↦ absurd (no_member s x e m) ]
 
 module _ (m : Model) (w : ℕ → ℕ → TermWord) (g : Good m w) (stuck : (c : Call) → is_drop_out c ≡ false → verdict m c ≢ 0) where
   few : m.n ≤ 16

@@ -74,9 +74,6 @@ module _ (m : Model) (o : Opening m) where
   pub standing_at : (a : ℕ) → a < m.n → (office m a).standing ≡ true
   standing_at a la = let few = o.few in ap (λ l. (get_or l a nobody).standing) o.all_fresh ∙ ap (λ (x : Office). x.standing) (get_or-replicate 16 a fresh nobody (omega arith))
 
-  round_at : (a : ℕ) → (office m a).round ≤ 1
-  round_at a = elim (fresh_at a) [ inl e ↦ rw e (omega arith) | inr e ↦ rw e (omega arith) ]
-
   pub in_voting : (a : ℕ) → terminating (office m a) ≡ false
   in_voting = like terminating false refl refl
 

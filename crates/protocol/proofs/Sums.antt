@@ -91,6 +91,10 @@ some-member s ne = some-bit s.mask ne
 pub no_member : (s : Offices) (i : ℕ) → s.mask ≡ 0 → member s i ≡ true → ⊥
 no_member s i z e = let n = bit-none i in grind arith
 
+-- who is in one of two sets of which the other has no bits is in the one
+pub in_one : (s : Offices) (x : ℕ) → s.mask ≡ 0 → (b : Bool) → (b || member s x) ≡ true → b ≡ true
+in_one s x e b h = elim (or_cases b (member s x) h) [ inl y ↦ y | inr m ↦ absurd (no_member s x e m) ]
+
 -- Termination words.
 pub join_N : (a b : TermWord) → higher a b ≡ N → (a ≡ N) × (b ≡ N)
 join_N a b h = grind arith

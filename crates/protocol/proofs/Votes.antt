@@ -12,7 +12,7 @@ use Rattle.posts.specs.declared.place.Place.TheVariants.{Waiting}
 use Rattle.posts.specs.Places.{vacant}
 use Rattle.protocol.specs.Hearing.{heard}
 use Rattle.protocol.specs.Model.{plan_round}
-use Rattle.protocol.proofs.Sums.{every_at, some_at, some-from, full_at, full_from, some-member, no_member, told_by, word_or, closed-yes, closed-no, closed-ready}
+use Rattle.protocol.proofs.Sums.{every_at, some_at, some-from, full_at, full_from, some-member, no_member, in_one, told_by, word_or, closed-yes, closed-no, closed-ready}
 use Rattle.protocol.proofs.Updates.{at1_is, at3_is}
 use Rattle.protocol.proofs.Voting.{Votes, Move, yes, no, close, leave, say, hear, last, named, is_taken, spoken, listened, Can, closed_known, moved, content, has_yes, has_no, has_ready, Knew, Reached, Lies, Fair, Plan}
 
@@ -258,9 +258,6 @@ module _ (u : Votes) where
   self : (i l : ℕ) (b : Bool) → i < 16 → b ≡ true → i ≡ l → (b && (eqb l i && ltb i 16)) ≡ true
   self i l b lt h e = grind (arith, nat_tests)
 
-  in_one : (s : Offices) (x : ℕ) (b : Bool) → s.mask ≡ 0 → (b || member s x) ≡ true → b ≡ true
-  in_one s x b e h = elim (or_cases b (member s x) h) [ inl y ↦ y | inr m ↦ absurd (no_member s x e m) ]
-
   hit_primed : Fair u → Plan u → (i l : ℕ) → Can u (close i) → u.h < suc (u.r i) → (closed_known u i).no.mask ≡ 0 → Knew u (suc (u.r i) - suc u.h) i l → member (closed_known u i).ready l ≡ true
   hit_primed f c i l g lt none e =
       let (li, vi, r1, _, _, _) = g in
@@ -268,7 +265,7 @@ module _ (u : Votes) where
       elim (cases_eq (u.r i) u.h) [
         | inl q ↦
             let z : suc (u.r i) - suc u.h ≡ 0 = omega arith in
-            let yes-full = full_from u.n (closed_known u i).yes (λ x lx. in_one (closed_known u i).no x (member (closed_known u i).yes x) none (hit_learnt f c i x g (inr (omega arith, lx)))) in
+            let yes-full = full_from u.n (closed_known u i).yes (λ x lx. in_one (closed_known u i).no x none (member (closed_known u i).yes x) (hit_learnt f c i x g (inr (omega arith, lx)))) in
             let k = closed-ready u.n i (u.knowledge i) (λ l. heard (u.place l i (u.r i))) l in
             k ∙ or_right _ _ (self i l (full u.n (closed_known u i).yes) (omega arith) yes-full (subst (λ (k : ℕ). Knew u k i l) z e))
         | inr ne ↦
