@@ -1,7 +1,7 @@
 -- What one call does to the records. Assumes nothing.
-use Rattle.std.proofs.Common.{◌≡◌, ℕ, suc, ◌+◌, ◌<◌, Bool, true, false, cond, not, ◌&&◌, ◌||◌, eqb, ◌≢◌, ◌⊎◌, Some, None, Option, sym, refl, ap, ◌∙◌, inl, inr, arith}
+use Rattle.std.proofs.Common.{◌≡◌, ℕ, suc, ◌+◌, ◌<◌, Bool, true, false, cond, not, ◌&&◌, ◌||◌, eqb, ◌≢◌, ◌⊎◌, Some, Option, sym, refl, ap, ◌∙◌, inl, inr, arith}
 use Rattle.std.proofs.lemmas.Bool.Decides.{nat_tests}
-use Rattle.std.proofs.lemmas.Bool.{both_ways, cases_eq, cond-true, cond-false, cond_both, and_left, or_right, eqb-false, eq-eqb, ne_eqb, and_from, or_cases}
+use Rattle.std.proofs.lemmas.Bool.{both_ways, cases_eq, cases_Bool, cond-true, cond-false, cond_both, and_left, or_right, eqb-false, eq-eqb, ne_eqb, and_from, or_cases}
 use Rattle.std.proofs.Math.Bool.{or-false}
 use Rattle.words.specs.declared.knowledge.Decision.{Decision}
 use Rattle.words.specs.declared.knowledge.Knowledge.{Knowledge}
@@ -85,35 +85,18 @@ pub votes_other : (c : Call) (a v : ℕ) → a ≢ actor c → votes a v c ≡ f
 votes_other (Vote i v) a x ne = and_left _ _ (not_acting i a ne)
 votes_other _ a x ne = refl
 
-pick : (b : Bool) (o p : Office) (x y d : Option Decision) → o.decision ≡ latest x d → p.decision ≡ latest y d → (cond b o p).decision ≡ latest (cond b x y) d
-pick true o p x y d e f = e
-pick false o p x y d e f = f
-
-pick_round : (b : Bool) (o p : Office) (x y : Option Decision) (r old : Option ℕ) → o.deciding ≡ cond (undecided x) old r → p.deciding ≡ old → (cond b o p).deciding ≡ cond (b && not (undecided (cond b x y))) r old
-pick_round true o p x y r old e f = e ∙ turn (undecided x) r old
-  where
-    turn : (b : Bool) (r old : Option ℕ) → cond b old r ≡ cond (not b) r old
-    turn b r old = grind arith
-pick_round false o p x y r old e f = f
-
 pub decision_new : (m : Model) (c : Call) → verdict m c ≡ 0 → (record_after m c).decision ≡ latest (gives m (actor c) c) (office m (actor c)).decision
 decision_new m (Vote i v) ok = let (_, _, v2, _, _) = asked.vote_asked m i v ok in voted_new v (office m i).decision v2
   where
     voted_new : (v : ℕ) (d : Option Decision) → v < 2 → (cond (eqb v 1) (voted_yes (office m i) i) (voted_no (office m i) i)).decision ≡ latest (gives m i (Vote i v)) (office m i).decision
     voted_new v d lt = grind (arith, nat_tests)
-decision_new m (Close i) ok = let e = eq-eqb i i refl in closed_new (eqb i i) e
-  where
-    closed_new : (b : Bool) → b ≡ true → (closed m i).decision ≡ latest (cond b (closing_gives m i) None) (office m i).decision
-    closed_new b e = rw e (pick (terminating (office m i)) _ _ _ _ (office m i).decision refl refl)
+decision_new m (Close i) ok = elim (cases_Bool (terminating (office m i))) [ inl p ↦ rw (p, eq-eqb i i refl) refl | inr p ↦ rw (p, eq-eqb i i refl) refl ]
 decision_new m (Notice i j) ok = cond_both (terminating (office m i)) _ _ (λ (o : Office). o.decision ≡ (office m i).decision) (λ _. refl) (λ _. refl)
 decision_new m _ ok = refl
 
 pub deciding_new : (m : Model) (c : Call) → (record_after m c).deciding ≡ cond (ends_round m (actor c) c && not (undecided (closing_gives m (actor c)))) (Some (office m (actor c)).round) (office m (actor c)).deciding
 deciding_new m (Vote i v) = cond_both (eqb v 1) _ _ (λ (o : Office). o.deciding ≡ (office m i).deciding) (λ _. refl) (λ _. refl)
-deciding_new m (Close i) = closed_new (eqb i i) (eq-eqb i i refl)
-  where
-    closed_new : (b : Bool) → b ≡ true → (closed m i).deciding ≡ cond ((b && terminating (office m i)) && not (undecided (closing_gives m i))) (Some (office m i).round) (office m i).deciding
-    closed_new b e = rw e (pick_round (terminating (office m i)) _ _ _ _ (Some (office m i).round) (office m i).deciding refl refl)
+deciding_new m (Close i) = elim (cases_Bool (terminating (office m i))) [ inl p ↦ rw (p, eq-eqb i i refl) (grind arith) | inr p ↦ rw (p, eq-eqb i i refl) refl ]
 deciding_new m (Notice i j) = cond_both (terminating (office m i)) _ _ (λ (o : Office). o.deciding ≡ (office m i).deciding) (λ _. refl) (λ _. refl)
 deciding_new m _ = refl
 
