@@ -1,11 +1,10 @@
 -- No deadlock, in one state. Assumes nothing.
 use Rattle.std.proofs.Common.{◌≡◌, ℕ, zero, suc, ◌+◌, ◌-◌, ◌<◌, ◌≤◌, Bool, true, false, cond, not, ◌&&◌, ◌||◌, eqb, ◌≢◌, ◌⊎◌, None, Option, sym, refl, ap, ◌∙◌, subst, inl, inr, arith}
 use Rattle.std.proofs.lemmas.Bool.Decides.{nat_tests}
-use Rattle.std.proofs.lemmas.Bool.{cases_eq, cases_lt, cases_Bool, cond-true, cond-false, eqb-false, le-leb, and_from, or_cases}
+use Rattle.std.proofs.lemmas.Bool.{both_ways, not-true, cases_eq, cases_lt, cases_Bool, cond-true, cond-false, eqb-false, le-leb, and_from}
 use Rattle.words.specs.declared.knowledge.Class.{Class}
 use Rattle.words.specs.declared.knowledge.Decision.{Decision}
 use Rattle.words.specs.declared.knowledge.Knowledge.{Knowledge}
-use Rattle.words.specs.declared.offices.Offices.{Offices}
 use Rattle.words.specs.declared.term.TermWord.{TermWord}
 use Rattle.words.specs.Below.{every}
 use Rattle.words.specs.Classes.{decision_of}
@@ -21,17 +20,17 @@ use Rattle.protocol.specs.Asked.{waiting_from, as_before, verdict}
 use Rattle.protocol.specs.Hearing.{heard, spoke}
 use Rattle.protocol.specs.Letters.{N, A, to_abort, to_commit}
 use Rattle.protocol.specs.Model.{Mail, Model, office, plan_round, voting_rounds}
-use Rattle.protocol.specs.Records.{undecided}
+use Rattle.protocol.specs.Records.{terminating, word, undecided}
 use Rattle.protocol.specs.Rules.{class, first_word}
 use Rattle.protocol.specs.History.{is_drop_out}
-use Rattle.protocol.proofs.Sums.{every_at, all_below, every_not, some_at, some-from, full_from, count_all, no_member}
+use Rattle.protocol.proofs.Sums.{every_at, all_below, every_not, some_at, some-from, full_from, count_all, in_one}
 use Rattle.protocol.proofs.Net.{Net, fits1, fits2, fits3, Own, Done}
 use Rattle.protocol.proofs.NetWords.{word_C, says_A_next}
 use Rattle.protocol.proofs.NetDead.{none-N, hears_A, after-C}
 use Rattle.protocol.proofs.Voting.{Votes, has_yes, last, is_taken, content, Lies, Knew}
 use Rattle.protocol.proofs.Votes.{still_open}
 use Rattle.protocol.proofs.View.{t_of, r_of, net, votes, Good}
-use Rattle.protocol.proofs.Decided.{class_commit, class-N, first_of, ready_all, no_voter}
+use Rattle.protocol.proofs.Decided.{no_rule, class_commit, class-N, first_of, ready_all, no_voter}
 use Rattle.protocol.proofs.Steps.{last_is}
 use Rattle.protocol.proofs.Accepts as accepts
 
@@ -41,17 +40,11 @@ agrees_own p x y o e = grind arith
 own_word : (s : Net) (a b k : ℕ) → Own s a b k → (s.place a b k ≡ Empty) ⊎ ((s.place a b k ≡ Waiting (s.word a k)) ⊎ (s.place a b k ≡ Taken (s.word a k)))
 own_word s a b k o = grind arith
 
-no_rule : (a b c : Bool) → cond a to_abort (cond b to_commit (cond c to_abort None)) ≡ None → (a ≡ false) × (b ≡ false)
-no_rule a b c e = grind arith
-
 some_rule : (a b c : Bool) → cond a to_abort (cond b to_commit (cond c to_abort None)) ≢ None → ((a ≡ true) ⊎ (c ≡ true)) ⊎ (b ≡ true)
 some_rule a b c e = grind arith
 
 decided_class : (c : Class) → decision_of c ≢ None → (first_word c ≡ A) ⊎ (decision_of c ≡ to_commit)
 decided_class c e = grind arith
-
-clash : {b : Bool} → b ≡ true → b ≡ false → ⊥
-clash p q = grind arith
 
 open_or : (d : Option Decision) → (d ≡ None) ⊎ (d ≢ None)
 open_or d = elim (cases_Bool (undecided d)) [ inl e ↦ inl (is d e) | inr e ↦ inr (is_not d e) ]
@@ -100,14 +93,7 @@ some_waits p j i q = let (k, _, x) = some_at p.reach (λ k. waits (p.places j i 
 
 agrees_known : (p : Place Knowledge) (x : Knowledge) → (p ≡ Empty) ⊎ (content p ≡ x) → agrees same_knowledge x p ≡ true
 agrees_known Empty x o = refl
-agrees_known (Waiting v) x o = same v x o
-  where
-    same : (v x : Knowledge) → (Waiting v ≡ Empty) ⊎ (v ≡ x) → same_knowledge v x ≡ true
-    same v x o = grind (arith, nat_tests)
-agrees_known (Taken v) x o = same v x o
-  where
-    same : (v x : Knowledge) → (Taken v ≡ Empty) ⊎ (v ≡ x) → same_knowledge v x ≡ true
-    same v x o = grind (arith, nat_tests)
+agrees_known _ x o = grind (arith, nat_tests)
 
 lies_now : (u : Votes) (s d : ℕ) → 1 ≤ u.r s → Lies u s d (u.r s) → (u.place s d (u.r s) ≡ Empty) ⊎ (content (u.place s d (u.r s)) ≡ u.knowledge s)
 lies_now u s d r1 x = grind arith
@@ -129,25 +115,22 @@ class-ready : (n : ℕ) (k : Knowledge) → full n k.ready ≡ true → decision
 unfolding class
 class-ready n k a e = grind (arith, nat_tests)
 
-in_one : (s : Offices) (x : ℕ) → s.mask ≡ 0 → (b : Bool) → (b || member s x) ≡ true → b ≡ true
-in_one s x e b h = elim (or_cases b (member s x) h) [ inl y ↦ y | inr m ↦ absurd (no_member s x e m) ]
-
 module _ (m : Model) (w : ℕ → ℕ → TermWord) (g : Good m w) (stuck : (c : Call) → is_drop_out c ≡ false → verdict m c ≢ 0) where
   few : m.n ≤ 16
   few = g.fixed.few
 
   gone : (j : ℕ) → not (office m j).standing ≡ true → (office m j).standing ≡ true → ⊥
-  gone j a b = grind arith
+  gone j a b = both_ways _ (not-true _ a) b
 
-  voted_all : (i : ℕ) → i < m.n → (office m i).standing ≡ true → (office m i).terminating ≡ false → (office m i).voted ≡ true
+  voted_all : (i : ℕ) → i < m.n → (office m i).standing ≡ true → terminating (office m i) ≡ false → (office m i).voted ≡ true
   voted_all i li st p = elim (cases_Bool (office m i).voted) [ inl e ↦ e | inr e ↦ absurd (stuck (Vote i 1) refl (accepts.vote_ok m few i li st p e)) ]
 
   -- once an office dropped out, every standing office has entered
-  has_entered : (d : ℕ) → d < m.n → (office m d).standing ≡ false → (i : ℕ) → i < m.n → (office m i).standing ≡ true → (office m i).terminating ≡ true
-  has_entered d ld so i li st = elim (cases_Bool (office m i).terminating) [
+  has_entered : (d : ℕ) → d < m.n → (office m d).standing ≡ false → (i : ℕ) → i < m.n → (office m i).standing ≡ true → terminating (office m i) ≡ true
+  has_entered d ld so i li st = elim (cases_Bool (terminating (office m i))) [
     | inl p ↦ p
     | inr p ↦ absurd (elim (cases_Bool (waiting_from m.termination d i)) [
-      | inr q ↦ stuck (Notice i d) refl (accepts.notice_ok m few i li st d ld (λ e. clash st (ap (λ (z : ℕ). (office m z).standing) e ∙ so)) so ((g.rec i li).untold p d) q)
+      | inr q ↦ stuck (Notice i d) refl (accepts.notice_ok m few i li st d ld (λ e. both_ways _ (ap (λ (z : ℕ). (office m z).standing) e ∙ so) st) so ((g.rec i li).untold p d) q)
       | inl q ↦ stuck (Join i) refl (accepts.join_ok m few i li st p (some-from m.n (λ j. waiting_from m.termination j i) d ld q))
     ])
   ]
@@ -156,10 +139,10 @@ module _ (m : Model) (w : ℕ → ℕ → TermWord) (g : Good m w) (stuck : (c :
     t_is : (i : ℕ) → i < m.n → (office m i).standing ≡ true → t_of (office m i) ≡ (office m i).round
     t_is i li st = cond-true _ _ _ (has_entered d ld so i li st)
 
-    same-words : (j : ℕ) → j < m.n → (office m j).standing ≡ true → as_before same_term m.termination j (office m j).round (office m j).word ≡ true
+    same-words : (j : ℕ) → j < m.n → (office m j).standing ≡ true → as_before same_term m.termination j (office m j).round (word (office m j)) ≡ true
     unfolding as_before
-    same-words j lj st = all_below 16 (λ r. agrees same_term (office m j).word (m.termination.places j r (office m j).round))
-        (λ r lr. agrees_own (m.termination.places j r (office m j).round) (office m j).word (w j (office m j).round) (own_word (net m w) j r (office m j).round (g.sound.own j r (office m j).round)) ((g.rec j lj).word_now (has_entered d ld so j lj st)))
+    same-words j lj st = all_below 16 (λ r. agrees same_term (word (office m j)) (m.termination.places j r (office m j).round))
+        (λ r lr. agrees_own (m.termination.places j r (office m j).round) (word (office m j)) (w j (office m j).round) (own_word (net m w) j r (office m j).round (g.sound.own j r (office m j).round)) ((g.rec j lj).word_now (has_entered d ld so j lj st)))
 
     spoken_in : (j : ℕ) → j < m.n → (office m j).standing ≡ true → (office m j).round ≤ m.termination.reach → (i : ℕ) → i < m.n → j ≢ i → vacant (m.termination.places j i (office m j).round) ≡ false
     spoken_in j lj st rr i li ne = elim (cases_Bool (vacant (m.termination.places j i (office m j).round))) [
@@ -168,7 +151,7 @@ module _ (m : Model) (w : ℕ → ℕ → TermWord) (g : Good m w) (stuck : (c :
     ]
 
     in_reach : (i : ℕ) → i < m.n → (office m i).standing ≡ true → (office m i).decision ≡ None → (office m i).round ≤ m.termination.reach
-    in_reach i li st un = let (_, _, lim, _) = (g.rec i li).still_open (has_entered d ld so i li st) un in let c = count_all m.n (net m w).dropped in let r = g.fixed.termination_reach in omega arith
+    in_reach i li st un = let (lim, _) = (g.rec i li).still_open (has_entered d ld so i li st) un in let c = count_all m.n (net m w).dropped in let r = g.fixed.termination_reach in omega arith
 
     -- a standing office that decided keeps no standing undecided office ahead of it
     ahead : (i j : ℕ) → i < m.n → j < m.n → (office m i).standing ≡ true → (office m j).standing ≡ true → (office m i).decision ≡ None → (office m j).decision ≢ None → (office m j).round < (office m i).round → ⊥
@@ -178,23 +161,23 @@ module _ (m : Model) (w : ℕ → ℕ → TermWord) (g : Good m w) (stuck : (c :
         let pj = has_entered d ld so j lj stj in
         let ti = t_is i li sti in
         let tj = t_is j lj stj in
-        let (_, _, _, fs) = (g.rec i li).still_open pi un in
+        let (_, fs) = (g.rec i li).still_open pi un in
         let r = g.rec j lj in
         let from = r.from in
-        let none : (fits1 s i (office m j).round ≡ false) × (fits2 s i (office m j).round ≡ false) = no_rule (fits1 s i (office m j).round) (fits2 s i (office m j).round) (fits3 s i (office m j).round) (fs (office m j).round from lt) in
+        let (none1, none2, _) = no_rule (fits1 s i (office m j).round) (fits2 s i (office m j).round) (fits3 s i (office m j).round) (fs (office m j).round from lt) in
         let ne : i ≢ j = λ e. lower i j e lt in
         let told-j : spoke (heard (m.termination.places j i (office m j).round)) ≡ true = took_j s (office m j).round i j (g.sound.closed i j (office m j).round from (omega arith) lj ne) (λ q. gone j (g.sound.gone i j q) stj) in
-        let not_A : s.word j (office m j).round ≢ A = λ a. clash (hears_A s i j (office m j).round lj (g.sound.own j i (office m j).round) told-j a) none.0 in
+        let not_A : s.word j (office m j).round ≢ A = λ a. both_ways _ none1 (hears_A s i j (office m j).round lj (g.sound.own j i (office m j).round) told-j a) in
         elim (r.shut pj de) [
-          | inl (_, r1, e) ↦ elim (decided_class (class m.n (office m j).knowledge) (λ q. de (e ∙ q))) [
+          | inl (r1, e) ↦ elim (decided_class (class m.n (office m j).knowledge) (λ q. de (e ∙ q))) [
             | inl a ↦ not_A (ap (s.word j) r1 ∙ r.first pj ∙ a)
             | inr c ↦ let no-N : (l : ℕ) → l < m.n → 1 ≤ s.t l → s.word l 1 ≢ N = λ l ll t1 q. class-N m.n _ (ready_all m w g j (class_commit m.n _ c) l ll) (sym (first_of m w g l ll t1) ∙ q) in
-                none-N s g.sound i 1 li (omega arith) no-N (ap (fits1 s i) (sym r1) ∙ none.0) (ap (fits2 s i) (sym r1) ∙ none.1)
+                none-N s g.sound i 1 li (omega arith) no-N (ap (fits1 s i) (sym r1) ∙ none1) (ap (fits2 s i) (sym r1) ∙ none2)
           ]
-          | inr (q1, rq, f, _, _) ↦ elim (some_rule (fits1 s j (office m j).deciding) (fits2 s j (office m j).deciding) (fits3 s j (office m j).deciding) (λ z. de (f ∙ z))) [
-            | inl x ↦ not_A (ap (s.word j) rq ∙ g.sound.grown j (office m j).deciding q1 (omega arith) ∙ says_A_next s j (office m j).deciding x)
-            | inr x ↦ let no-N : (l : ℕ) → l < m.n → suc (office m j).deciding ≤ s.t l → s.word l (suc (office m j).deciding) ≢ N = λ l ll tl. after-C s g.sound j (office m j).deciding lj q1 (ap not stj) (word_C s j (office m j).deciding x) (omega arith) l ll tl in
-                none-N s g.sound i (suc (office m j).deciding) li (omega arith) no-N (ap (fits1 s i) (sym rq) ∙ none.0) (ap (fits2 s i) (sym rq) ∙ none.1)
+          | inr (k, q1, rq, f) ↦ elim (some_rule (fits1 s j k) (fits2 s j k) (fits3 s j k) (λ z. de (f ∙ z))) [
+            | inl x ↦ not_A (ap (s.word j) rq ∙ g.sound.grown j k q1 (omega arith) ∙ says_A_next s j k x)
+            | inr x ↦ let no-N : (l : ℕ) → l < m.n → suc k ≤ s.t l → s.word l (suc k) ≢ N = λ l ll tl. after-C s g.sound j k lj q1 (ap not stj) (word_C s j k x) (omega arith) l ll tl in
+                none-N s g.sound i (suc k) li (omega arith) no-N (ap (fits1 s i) (sym rq) ∙ none1) (ap (fits2 s i) (sym rq) ∙ none2)
           ]
         ]
       where
@@ -222,7 +205,7 @@ module _ (m : Model) (w : ℕ → ℕ → TermWord) (g : Good m w) (stuck : (c :
             let ti = t_is i li st in
             let kt = own_low (net m w) j i k (g.sound.own j i k) (not_vacant (m.termination.places j i k) wa) in
             elim (cases_lt k (office m i).round) [
-              | inl lt ↦ absurd (taken_not (m.termination.places j i k) (took_j (net m w) k i j (g.sound.closed i j k k1 (omega arith) lj ne) (λ q. clash q nt)) wa)
+              | inl lt ↦ absurd (taken_not (m.termination.places j i k) (took_j (net m w) k i j (g.sound.closed i j k k1 (omega arith) lj ne) (λ q. both_ways _ nt q)) wa)
               | inr ge ↦ elim (cases_eq k (office m i).round) [
                 | inl e ↦ ap (λ (z : ℕ). vacant (m.termination.places j i z)) (sym e) ∙ not_empty (m.termination.places j i k) wa
                 | inr nk ↦ spoke_before j i (office m i).round li st r1 (omega arith) (λ e. ne (sym e))
@@ -244,7 +227,7 @@ module _ (m : Model) (w : ℕ → ℕ → TermWord) (g : Good m w) (stuck : (c :
           ]
         ]
 
-        heard_j : ((j : ℕ) → j < m.n → (office m j).standing ≡ true → (office m j).round < b → (office m j).decision ≢ None) → (j : ℕ) → j < m.n → i ≢ j → member (office m i).told j ≡ false → 1 ≤ (office m i).round → (office m i).round ≤ m.termination.reach → (office m i).terminating ≡ true → is_taken (m.termination.places j i (office m i).round) ≡ true
+        heard_j : ((j : ℕ) → j < m.n → (office m j).standing ≡ true → (office m j).round < b → (office m j).decision ≢ None) → (j : ℕ) → j < m.n → i ≢ j → member (office m i).told j ≡ false → 1 ≤ (office m i).round → (office m i).round ≤ m.termination.reach → terminating (office m i) ≡ true → is_taken (m.termination.places j i (office m i).round) ≡ true
         heard_j ih j lj ne nt r1 rr p = elim (cases_Bool (is_taken (m.termination.places j i (office m i).round))) [
           | inl e ↦ e
           | inr e ↦ absurd (stuck (Hear i j) refl (accepts.hear_ending_ok m few i li st j lj ne p un r1 rr (waiting _ (posted ih j lj ne nt r1 rr) e)))
@@ -252,8 +235,8 @@ module _ (m : Model) (w : ℕ → ℕ → TermWord) (g : Good m w) (stuck : (c :
 
   -- where nobody dropped out
   module _ (all : (j : ℕ) → j < m.n → (office m j).standing ≡ true) where
-    voting : (j : ℕ) → j < m.n → (office m j).terminating ≡ false
-    voting j lj = elim (cases_Bool (office m j).terminating) [
+    voting : (j : ℕ) → j < m.n → terminating (office m j) ≡ false
+    voting j lj = elim (cases_Bool (terminating (office m j))) [
       | inr p ↦ p
       | inl p ↦ let f = (g.rec j lj).from in let t : t_of (office m j) ≡ (office m j).round = cond-true _ _ _ p in let (d, ld, dd, _) = g.sound.cause j (omega arith) in absurd (gone d dd (all d ld))
     ]
@@ -319,7 +302,7 @@ module _ (m : Model) (w : ℕ → ℕ → TermWord) (g : Good m w) (stuck : (c :
               ]
             ]
 
-        heard_j : ((j : ℕ) → j < m.n → (office m j).round < b → (office m j).round ≤ last (votes m) j → ⊥) → (j : ℕ) → j < m.n → m.names (plan_round m.h (office m i).round) j i ≡ true → (office m i).terminating ≡ false → (office m i).voted ≡ true → (office m i).round ≤ voting_rounds m.h (office m i).decision → is_taken (m.voting.places j i (office m i).round) ≡ true
+        heard_j : ((j : ℕ) → j < m.n → (office m j).round < b → (office m j).round ≤ last (votes m) j → ⊥) → (j : ℕ) → j < m.n → m.names (plan_round m.h (office m i).round) j i ≡ true → terminating (office m i) ≡ false → (office m i).voted ≡ true → (office m i).round ≤ voting_rounds m.h (office m i).decision → is_taken (m.voting.places j i (office m i).round) ≡ true
         heard_j ih j lj nm p vo le' = elim (cases_Bool (is_taken (m.voting.places j i (office m i).round))) [
           | inl e ↦ e
           | inr e ↦ let ne = (g.fixed.proper _ j i nm).apart in
@@ -330,7 +313,7 @@ module _ (m : Model) (w : ℕ → ℕ → TermWord) (g : Good m w) (stuck : (c :
     voting_decided i li un = elim (cases_lt (last (votes m) i) (office m i).round) [
       | inr le ↦ no_round_left (suc (office m i).round) i li (omega arith) le
       | inl nl ↦
-          let de = ((g.rec i li).in_voting (voting i li)).0 in
+          let de = (g.rec i li).in_voting (voting i li) in
           elim (cases_eq (office m i).knowledge.no.mask 0) [
             | inr ne ↦ class-some m.n _ ne (sym de ∙ un)
             | inl z ↦

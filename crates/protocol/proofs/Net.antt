@@ -69,45 +69,28 @@ May s (enter i w) = (i < s.n) × (s.dropped i ≡ false) × (s.t i ≡ 0) × ((j
 abbrev pub place_after : Net → Deed → Places TermWord
 place_after s (speak i j) = at3 s.place i j (s.t i) (Waiting (s.word i (s.t i)))
 place_after s (hear i j) = at3 s.place j i (s.t i) (taken (s.place j i (s.t i)))
-place_after s (notice i j) = s.place
-place_after s (close i) = s.place
-place_after s (drop i) = s.place
-place_after s (enter i w) = s.place
+place_after s _ = s.place
 
 abbrev pub word_after : Net → Deed → ℕ → ℕ → TermWord
-word_after s (speak i j) = s.word
-word_after s (hear i j) = s.word
-word_after s (notice i j) = s.word
 word_after s (close i) = at2 s.word i (suc (s.t i)) (next s i (s.t i))
-word_after s (drop i) = s.word
 word_after s (enter i w) = at2 s.word i 1 w
+word_after s _ = s.word
 
 abbrev pub t_after : Net → Deed → ℕ → ℕ
-t_after s (speak i j) = s.t
-t_after s (hear i j) = s.t
-t_after s (notice i j) = s.t
 t_after s (close i) = at1 s.t i (suc (s.t i))
-t_after s (drop i) = s.t
 t_after s (enter i w) = at1 s.t i 1
+t_after s _ = s.t
 
 abbrev pub dropped-after : Net → Deed → ℕ → Bool
-dropped-after s (speak i j) = s.dropped
-dropped-after s (hear i j) = s.dropped
-dropped-after s (notice i j) = s.dropped
-dropped-after s (close i) = s.dropped
 dropped-after s (drop i) = at1 s.dropped i true
-dropped-after s (enter i w) = s.dropped
+dropped-after s _ = s.dropped
 
 abbrev pub told-after : Net → Deed → ℕ → ℕ → Bool
-told-after s (speak i j) = s.told
-told-after s (hear i j) = s.told
 told-after s (notice i j) = at2 s.told i j true
-told-after s (close i) = s.told
-told-after s (drop i) = s.told
-told-after s (enter i w) = s.told
+told-after s _ = s.told
 
 abbrev pub does : Net → Deed → Net
-does s c = record { n = s.n; reach = s.reach; place = place_after s c; word = word_after s c; t = t_after s c; dropped = dropped-after s c; told = told-after s c }
+does s c = record s { place = place_after s c; word = word_after s c; t = t_after s c; dropped = dropped-after s c; told = told-after s c }
 
 -- a place holds nothing or the sender's word of that round
 abbrev pub Own : Net → ℕ → ℕ → ℕ → Type 0

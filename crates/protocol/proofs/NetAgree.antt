@@ -1,10 +1,10 @@
 -- Agreement in the termination. Assumes nothing.
 use Rattle.std.proofs.Common.{◌≡◌, ℕ, zero, suc, ◌-◌, ◌<◌, ◌≤◌, true, false, ◌≢◌, sym, ◌∙◌, inl, inr, arith}
 use Rattle.std.proofs.lemmas.Bool.{cases_eq, cases_lt}
-use Rattle.words.specs.declared.term.TermWord.{TermWord}
 use Rattle.posts.specs.Places.{waits}
 use Rattle.protocol.specs.Letters.{N, C}
 use Rattle.protocol.proofs.Sums.{word_or}
+use Rattle.protocol.proofs.Rules.{not_both}
 use Rattle.protocol.proofs.Net.{Net, hears, sum_of, fits2, fits3, Own, Done, Sound}
 use Rattle.protocol.proofs.NetWords.{next_N, own_N, hears_N, word_C, Fits3, unpack3, none-C, next_not_C}
 
@@ -62,15 +62,12 @@ agreed s h i j k m li lj k1 m1 ki mj r3 r2 =
           let a = rises s h i k m m1 (omega arith) (omega arith) f.own in
           let b = rises s h i k (suc m) (omega arith) mk (omega arith) f.own in
           elim (cases_eq i j) [
-            | inl e ↦ two-words (s.word j m) c (rw (← e) a)
+            | inl e ↦ not_both c (rw (← e) a)
             | inr ne ↦
                 let (_, z) = next_N s i m (sym (h.grown i m m1 (omega arith)) ∙ b) in
                 clash s i j m (h.closed i j m m1 (omega arith) lj ne) (h.closed j i m m1 mj li (λ e. ne (sym e))) (h.own j i m) (h.quiet i j m) (h.apart i j) c (hears_N s i m z j lj)
           ]
     ]
   where
-    two-words : (w : TermWord) → w ≡ C → w ≡ N → ⊥
-    two-words w p q = grind arith
-
     clash : (s : Net) (i j m : ℕ) → Done s i j m → Done s j i m → Own s j i m → (s.told i j ≡ true → waits (s.place j i m) ≡ false) → (s.told i j ≡ true → s.told j i ≡ true → ⊥) → s.word j m ≡ C → word_or N (hears s i m j) ≡ N → ⊥
     clash s i j m c1 c2 o go p c z = grind arith

@@ -2,33 +2,32 @@
 use Rattle.std.proofs.Common.{◌≡◌, ℕ, zero, suc, ◌-◌, ◌<◌, ◌≤◌, Bool, true, false, not, ◌&&◌, eqb, ltb, ◌≢◌, Some, Option, sym, ◌∙◌, inl, inr, arith}
 use mathlib.Core.Bool.{beq}
 use Rattle.std.proofs.lemmas.Bool.Decides.{nat_tests}
-use Rattle.std.proofs.lemmas.Bool.{cases_lt}
+use Rattle.std.proofs.lemmas.Bool.{both_ways, cases_lt}
 use Rattle.words.specs.declared.term.TermWord.{TermWord}
-use Rattle.words.specs.Terms.{higher}
 use Rattle.posts.specs.Places.{waits}
 use Rattle.protocol.specs.Hearing.{spoke}
 use Rattle.protocol.specs.History.{count}
 use Rattle.protocol.specs.Letters.{N, C, A}
 use Rattle.protocol.specs.Rules.{only}
-use Rattle.protocol.proofs.Sums.{every_at, count_le, count_lt, count_pos, word_or, sum_term, total_is}
-use Rattle.protocol.proofs.Rules.{three, not_all, three_not}
+use Rattle.protocol.proofs.Sums.{every_at, count_le, count_lt, count_pos, word_or, join_A, C≢N, sum_term, total_is}
+use Rattle.protocol.proofs.Rules.{three, not_both, not_all, three_not}
 use Rattle.protocol.proofs.Net.{Net, hears, sum_of, fits1, fits2, fits3, close, done_with, May, Own, Cause, Done, Sound}
-use Rattle.protocol.proofs.NetWords.{next_N, next_C, own_N, hears_N, A_fits1, C_among, heard-A}
+use Rattle.protocol.proofs.NetWords.{next_N, next_C, own_N, hears_N, A_fits1, among, heard-A}
 use Rattle.protocol.proofs.NetAgree.{rises}
 
 pub own_said : (s : Net) (a b k : ℕ) (w : TermWord) → Own s a b k → hears s b k a ≡ Some w → (a ≢ b) × (k ≤ s.t a) × (s.word a k ≡ w)
 own_said s a b k w o e = grind arith
 
-got_C : (h : Option TermWord) → word_or N h ≡ C → h ≡ Some C
-got_C h e = grind arith
+got : (w : TermWord) → w ≢ N → (h : Option TermWord) → word_or N h ≡ w → h ≡ Some w
+got w nn h e = grind arith
 
--- where the sum is C, some office that reached round k has C there
-pub C-from : (s : Net) → Sound s → (i k : ℕ) → i < s.n → k ≤ s.t i → sum_of s i k ≡ C → (z : ℕ) × (z < s.n) × (k ≤ s.t z) × (s.word z k ≡ C)
-C-from s h i k li ki e =
-    elim (C_among s i k e) [
+-- where the sum is w, higher than N, some office that reached round k has w there
+pub word_from : (w : TermWord) → w ≢ N → (s : Net) → Sound s → (i k : ℕ) → i < s.n → k ≤ s.t i → sum_of s i k ≡ w → (z : ℕ) × (z < s.n) × (k ≤ s.t z) × (s.word z k ≡ w)
+word_from w nn s h i k li ki e =
+    elim (among w nn s i k e) [
       | inl c ↦ (i, li, ki, c)
       | inr (z, lz, x) ↦
-          let (_, kz, wz) = own_said s z i k C (h.own z i k) (got_C (hears s i k z) x) in
+          let (_, kz, wz) = own_said s z i k w (h.own z i k) (got w nn (hears s i k z) x) in
           (z, lz, kz, wz)
     ]
 
@@ -36,7 +35,7 @@ C-from s h i k li ki e =
 stopped : (s : Net) → Sound s → (x z k : ℕ) → x < s.n → z < s.n → 1 ≤ k → k < s.t x → k ≤ s.t z → sum_of s x k ≡ N → s.word z k ≡ C → (s.t z ≡ k) × (s.dropped z ≡ true)
 stopped s h x z k lx lz k1 kx kz e c =
     let a = own_N s x k e in
-    let ne : x ≢ z = λ q. differ (s.word x k) (s.word z k) a c (cc) in
+    let ne : x ≢ z = λ q. not_both c (rw q at a) in
     let nn = hears_N s x k e z lz in
     let o = h.own z x k in
     let c1 = h.closed x z k k1 kx lz ne in
@@ -50,9 +49,6 @@ stopped s h x z k lx lz k1 kx kz e c =
       | inr le ↦ (omega arith, dropped_since s x z k nn c o c1 g)
     ]
   where
-    differ : (a b : TermWord) → a ≡ N → b ≡ C → a ≡ b → ⊥
-    differ a b p q r = grind arith
-
     clash : (s : Net) (x z k : ℕ) → word_or N (hears s x k z) ≡ N → s.word z k ≡ C → Own s z x k → Done s x z k → Done s z x k → (s.told x z ≡ true → waits (s.place z x k) ≡ false) → (s.told x z ≡ true → s.told z x ≡ true → ⊥) → ⊥
     clash s x z k nn c o c1 c2 q p = grind arith
 
@@ -73,7 +69,7 @@ mixed s h (d, dn, dd, dt) (suc zero) x y lx ly k1 kx ky n w = count_pos s.n (out
 mixed s h c (suc (suc k)) x y lx ly k1 kx ky n w =
     let (_, ex) = next_N s x (suc k) (sym (h.grown x (suc k) (omega arith) kx) ∙ n) in
     let ey = next_C s y (suc k) (sym (h.grown y (suc k) (omega arith) ky) ∙ w) in
-    let (z, lz, kz, wz) = C-from s h y (suc k) ly (omega arith) ey in
+    let (z, lz, kz, wz) = word_from C C≢N s h y (suc k) ly (omega arith) ey in
     let (tz, dz) = stopped s h x z (suc k) lx lz (omega arith) kx kz ex wz in
     let ih = mixed s h c (suc k) x z lx lz (omega arith) (omega arith) kz (own_N s x (suc k) ex) wz in
     let more = count_lt s.n (out s (suc k)) (out s (suc (suc k))) (out_more s (suc k)) z lz (grind (arith, nat_tests)) (grind (arith, nat_tests)) in
@@ -153,11 +149,8 @@ N-from s h i k li ki e r =
     is_N : (w : TermWord) → w ≢ C → w ≢ A → w ≡ N
     is_N w a b = grind arith
 
-    high : (a b : TermWord) → a ≡ A → higher a b ≡ A
-    high a b e = grind arith
-
     A_own : s.word i k ≡ A → sum_of s i k ≡ A
-    A_own a = total_is s.n (s.word i k) (hears s i k) ∙ high (s.word i k) (sum_term s.n (hears s i k)) a
+    A_own a = total_is s.n (s.word i k) (hears s i k) ∙ join_A (s.word i k) (sum_term s.n (hears s i k)) (inl a)
 
 pub record Closes (s : Net) (i : ℕ) : Type 0 where
   pub i_in : i < s.n
@@ -177,15 +170,12 @@ bounded s h i v r1 r2 r3 =
           omega arith
       | inr (inl e) ↦
           let (x, lx, kx, wx) = N-from s h i (s.t i) v.i_in (omega arith) e r2 in
-          let (y, ly, ky, wy) = C-from s h i (s.t i) v.i_in (omega arith) e in
+          let (y, ly, ky, wy) = word_from C C≢N s h i (s.t i) v.i_in (omega arith) e in
           let a = mixed s h c (s.t i) x y lx ly v.from kx ky wx wy in
           let b = count_le s.n (out s (s.t i)) s.dropped (λ l ll q. grind arith) in
           omega arith
-      | inr (inr e) ↦ absurd (clash (A_fits1 s i (s.t i) e) r1)
+      | inr (inr e) ↦ absurd (both_ways _ r1 (A_fits1 s i (s.t i) e))
     ]
   where
-    clash : {b : Bool} → b ≡ true → b ≡ false → ⊥
-    clash p q = grind arith
-
     told_out : (s : Net) (i l : ℕ) → done_with s i l ≡ true → unheard s i (s.t i) l ≡ true → (s.told i l ≡ true → s.dropped l ≡ true) → s.dropped l ≡ true
     told_out s i l d u g = grind (arith, nat_tests)

@@ -1,11 +1,10 @@
 -- What the words of a round say, by the rules. Assumes nothing.
 use Rattle.std.proofs.Common.{◌≡◌, ℕ, ◌-◌, ◌<◌, ◌≤◌, Bool, true, false, cond, ◌≢◌, ◌⊎◌, Option, sym, ◌∙◌, inl, inr, arith}
 use Rattle.words.specs.declared.term.TermWord.{TermWord}
-use Rattle.words.specs.Terms.{higher}
 use Rattle.protocol.specs.Hearing.{spoke}
 use Rattle.protocol.specs.Letters.{N, C, A}
 use Rattle.protocol.specs.Rules.{only}
-use Rattle.protocol.proofs.Sums.{word_or, join_N, join_C, join_C_one, join_A_one, sum_term, sum_N, sum_C, sum_A, sum_C_at, sum_A_at, total_is}
+use Rattle.protocol.proofs.Sums.{word_or, join_N, join_C, join_one, join_A, sum_term, sum_N, sum_C, sum_A, sum_at, total_is}
 use Rattle.protocol.proofs.Rules.{A_sum, sum_A_fits, all_own, all_heard, three_asks, next_is}
 use Rattle.protocol.proofs.Net.{Net, hears, sum_of, fits1, fits2, fits3, next}
 
@@ -76,11 +75,8 @@ pub A_fits1 : (s : Net) (i k : ℕ) → sum_of s i k ≡ A → fits1 s i k ≡ t
 A_fits1 s i k e = sum_A_fits s.n (s.word i k) (hears s i k) e
 
 -- where the sum is w, higher than N, its own word is w or it heard w
-pub C_among : (s : Net) (i k : ℕ) → sum_of s i k ≡ C → (s.word i k ≡ C) ⊎ ((z : ℕ) × (z < s.n) × (word_or N (hears s i k z) ≡ C))
-C_among s i k e = elim (join_C_one (s.word i k) (sum_term s.n (hears s i k)) (sym (total_is s.n (s.word i k) (hears s i k)) ∙ e)) [ inl c ↦ inl c | inr c ↦ inr (sum_C_at s.n (hears s i k) c) ]
-
-pub A_among : (s : Net) (i k : ℕ) → sum_of s i k ≡ A → (s.word i k ≡ A) ⊎ ((z : ℕ) × (z < s.n) × (word_or N (hears s i k z) ≡ A))
-A_among s i k e = elim (join_A_one (s.word i k) (sum_term s.n (hears s i k)) (sym (total_is s.n (s.word i k) (hears s i k)) ∙ e)) [ inl c ↦ inl c | inr c ↦ inr (sum_A_at s.n (hears s i k) c) ]
+pub among : (w : TermWord) → w ≢ N → (s : Net) (i k : ℕ) → sum_of s i k ≡ w → (s.word i k ≡ w) ⊎ ((z : ℕ) × (z < s.n) × (word_or N (hears s i k z) ≡ w))
+among w nn s i k e = elim (join_one w nn (s.word i k) (sum_term s.n (hears s i k)) (sym (total_is s.n (s.word i k) (hears s i k)) ∙ e)) [ inl c ↦ inl c | inr c ↦ inr (sum_at w nn s.n (hears s i k) c) ]
 
 -- where neither its own word nor one that it heard is C, the sum is not C
 pub none-C : (s : Net) (i k : ℕ) → s.word i k ≢ C → ((x : ℕ) → x < s.n → word_or N (hears s i k x) ≢ C) → sum_of s i k ≢ C
@@ -91,7 +87,4 @@ next_not_C s i k p e = p (next_C s i k e)
 
 -- an A that it heard makes the sum A
 pub heard-A : (s : Net) (i k z : ℕ) → z < s.n → word_or N (hears s i k z) ≡ A → sum_of s i k ≡ A
-heard-A s i k z lz e = total_is s.n (s.word i k) (hears s i k) ∙ high (s.word i k) (sum_term s.n (hears s i k)) (sum_A s.n (hears s i k) z lz e)
-  where
-    high : (a b : TermWord) → b ≡ A → higher a b ≡ A
-    high a b e = grind arith
+heard-A s i k z lz e = total_is s.n (s.word i k) (hears s i k) ∙ join_A (s.word i k) (sum_term s.n (hears s i k)) (inr (sum_A s.n (hears s i k) z lz e))

@@ -1,7 +1,7 @@
 -- What the rules of the termination say of the sum of the words. Assumes nothing.
 use Rattle.std.proofs.Common.{◌≡◌, ℕ, ◌<◌, ◌≤◌, Bool, true, false, cond, ◌&&◌, leb, ◌≢◌, ◌⊎◌, Option, sym, ◌∙◌, inl, inr, arith}
 use mathlib.Core.Bool.{beq}
-use Rattle.std.proofs.lemmas.Bool.{cases_Bool, or_cases, or_left, or_right, and_parts, and_from}
+use Rattle.std.proofs.lemmas.Bool.{both_ways, cases_Bool, or_cases, or_left, or_right, and_parts, and_from}
 use Rattle.std.proofs.lemmas.Bool.Decides.{nat_tests}
 use Rattle.words.specs.declared.term.TermWord.{TermWord}
 use Rattle.words.specs.Below.{every, some}
@@ -9,7 +9,7 @@ use Rattle.words.specs.Terms.{higher, same_term}
 use Rattle.protocol.specs.Hearing.{Heard, spoke}
 use Rattle.protocol.specs.Letters.{N, C, A}
 use Rattle.protocol.specs.Rules.{only, all_are, says_A, rule_1, rule_2, rule_3, same_offices, next_word}
-use Rattle.protocol.proofs.Sums.{every_at, all_below, every_not, some_at, some-from, word_or, sum_term, join_N, join_A_one, sum_N, sum_A, sum_A_at, total_term, total_is}
+use Rattle.protocol.proofs.Sums.{every_at, all_below, every_not, some_at, some-from, word_or, sum_term, join_N, join_one, join_A, C≢N, A≢N, sum_N, sum_A, sum_at, total_term, total_is}
 
 pub three : (w : TermWord) → (w ≡ N) ⊎ ((w ≡ C) ⊎ (w ≡ A))
 three w = grind arith
@@ -26,26 +26,23 @@ says_is o e = grind arith
 says-from : (o : Option TermWord) → word_or N o ≡ A → says_A o ≡ true
 says-from o e = grind arith
 
-high_A : (a b : TermWord) → (a ≡ A) ⊎ (b ≡ A) → higher a b ≡ A
-high_A a b e = grind arith
-
-high_N : (a b : TermWord) → a ≡ N → b ≡ N → higher a b ≡ N
-high_N a b p q = grind arith
+pub not_both : {w : TermWord} → w ≡ C → w ≡ N → ⊥
+not_both p q = C≢N (sym p ∙ q)
 
 module _ (n : ℕ) (own : TermWord) (q : Heard TermWord) where
   -- rule 1 fits exactly where the sum is A
   pub A_sum : rule_1 n own q ≡ true → total_term n own q ≡ A
   unfolding rule_1
-  A_sum e = total_is n own q ∙ high_A own (sum_term n q) (elim (or_cases (same_term own A) (some n (λ l. says_A (q l))) e) [
+  A_sum e = total_is n own q ∙ join_A own (sum_term n q) (elim (or_cases (same_term own A) (some n (λ l. says_A (q l))) e) [
     | inl a ↦ inl (same_is own A a)
     | inr b ↦ inr (let (l, lt, x) = some_at n (λ l. says_A (q l)) b in sum_A n q l lt (says_is (q l) x))
   ])
 
   pub sum_A_fits : total_term n own q ≡ A → rule_1 n own q ≡ true
   unfolding rule_1
-  sum_A_fits e = elim (join_A_one own (sum_term n q) (sym (total_is n own q) ∙ e)) [
+  sum_A_fits e = elim (join_one A A≢N own (sum_term n q) (sym (total_is n own q) ∙ e)) [
     | inl a ↦ or_left _ _ (same_from own A a)
-    | inr b ↦ or_right (same_term own A) (some n (λ l. says_A (q l))) (let (l, lt, x) = sum_A_at n q b in some-from n (λ l. says_A (q l)) l lt (says-from (q l) x))
+    | inr b ↦ or_right (same_term own A) (some n (λ l. says_A (q l))) (let (l, lt, x) = sum_at A A≢N n q b in some-from n (λ l. says_A (q l)) l lt (says-from (q l) x))
   ]
 
   pub all_own : (w : TermWord) → all_are w n own q ≡ true → own ≡ w
@@ -71,14 +68,11 @@ module _ (n : ℕ) (own : TermWord) (q : Heard TermWord) where
   unfolding all_are
   not_all w e = elim (cases_Bool (same_term own w)) [
     | inl a ↦ inr (every_not n (λ l. only w (q l)) (right (same_term own w) (every n (λ l. only w (q l))) a e))
-    | inr b ↦ inl (λ s. clash (same_from own w s) b)
+    | inr b ↦ inl (λ s. both_ways _ b (same_from own w s))
   ]
     where
       right : (a b : Bool) → a ≡ true → (a && b) ≡ false → b ≡ false
       right a b p q = grind arith
-
-      clash : {b : Bool} → b ≡ true → b ≡ false → ⊥
-      clash p q = grind arith
 
 -- what rule 3 asks
 pub record Three (n k : ℕ) (own : TermWord) (q : Heard TermWord) (own' : TermWord) (q' : Heard TermWord) : Type 0 where
@@ -115,16 +109,13 @@ module _ (n k : ℕ) (own : TermWord) (q : Heard TermWord) (own' : TermWord) (q'
 
   -- the next word: A after rule 3, and else the sum
   pub next_is : next_word n k own q own' q' ≡ cond (rule_3 n k own q own' q') A (total_term n own q)
-  next_is = four (rule_1 n own q) (rule_2 n own q) (rule_3 n k own q own' q') (total_term n own q) (A_sum n own q) (sum_A_fits n own q) two (λ c e. let t = three_asks e in clash own (all_own n own q C c) (all_own n own q N t.now))
+  next_is = four (rule_1 n own q) (rule_2 n own q) (rule_3 n k own q own' q') (total_term n own q) (A_sum n own q) (sum_A_fits n own q) two (λ c e. let t = three_asks e in not_both (all_own n own q C c) (all_own n own q N t.now))
     where
       two : rule_2 n own q ≡ true → (total_term n own q ≡ C) ⊎ (total_term n own q ≡ A)
       two e = total_high own (sum_term n q) (total_term n own q) (all_own n own q C e) (total_is n own q)
         where
           total_high : (a b t : TermWord) → a ≡ C → t ≡ higher a b → (t ≡ C) ⊎ (t ≡ A)
           total_high a b t p e = grind arith
-
-      clash : (w : TermWord) → w ≡ C → w ≡ N → ⊥
-      clash w p q = grind arith
 
       four : (a b c : Bool) (t : TermWord) → (a ≡ true → t ≡ A) → (t ≡ A → a ≡ true) → (b ≡ true → (t ≡ C) ⊎ (t ≡ A)) → (b ≡ true → c ≡ true → ⊥) → cond a A (cond b C (cond c A t)) ≡ cond c A t
       four a b c t p p' q r = grind arith

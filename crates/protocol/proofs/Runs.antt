@@ -1,7 +1,7 @@
 -- Every run keeps what Good says. Assumes nothing.
 use Rattle.std.proofs.Common.{◌≡◌, ℕ, ◌-◌, ◌<◌, ◌≤◌, Bool, true, false, cond, eqb, ◌⊎◌, List, [], ◌∷◌, length, get_or, None, sym, refl, ap, ◌∙◌, subst, inl, inr, arith}
 use Rattle.std.proofs.lemmas.Bool.Decides.{nat_tests}
-use Rattle.std.proofs.lemmas.Bool.{cases_lt, cases_Bool, cond_both, eqb-true}
+use Rattle.std.proofs.lemmas.Bool.{both_ways, cases_lt, cases_Bool, cond_both, eqb-true}
 use Rattle.words.specs.declared.knowledge.Knowledge.{Knowledge}
 use Rattle.words.specs.declared.offices.Offices.{Offices}
 use Rattle.words.specs.declared.term.TermWord.{TermWord}
@@ -18,7 +18,7 @@ use Rattle.protocol.specs.Asked.{verdict}
 use Rattle.protocol.specs.Letters.{N}
 use Rattle.protocol.specs.Model.{Model, nobody, office}
 use Rattle.protocol.specs.Openings.{Opening}
-use Rattle.protocol.specs.Records.{fresh, closed_voting, closed_termination}
+use Rattle.protocol.specs.Records.{terminating, fresh, closed_voting, closed_termination}
 use Rattle.protocol.specs.Rules.{class}
 use Rattle.protocol.specs.Steps.{heard_in, with_office, after, step, run}
 use lib.ListN.{get_or-replicate, get_or-eq_default}
@@ -41,14 +41,14 @@ unfolding steps.after-voting steps.after_ending
 fine_after m (w, g) (Vote i v) ok =
     let (li, st, v2, p, vo) = asked.vote_asked m i v ok in
     fine_office m i (eqb v 1) _ _ (λ _. (w, steps.vote_yes m w g i li p vo)) (λ _. (w, steps.vote_no m w g i li p vo))
-fine_after m (w, g) (Speak i j) ok = cond_both (office m i).terminating _ _ Fine (λ p. (w, steps.speak_ending m w g i j p ok)) (λ p. (w, steps.speak_voting m w g i j p ok))
-fine_after m (w, g) (Hear i j) ok = cond_both (office m i).terminating _ _ Fine (λ p. (w, steps.hear_ending m w g i j p ok)) (λ p. (w, steps.hear_voting m w g i j p ok))
+fine_after m (w, g) (Speak i j) ok = cond_both (terminating (office m i)) _ _ Fine (λ p. (w, steps.speak_ending m w g i j p ok)) (λ p. (w, steps.speak_voting m w g i j p ok))
+fine_after m (w, g) (Hear i j) ok = cond_both (terminating (office m i)) _ _ Fine (λ p. (w, steps.hear_ending m w g i j p ok)) (λ p. (w, steps.hear_voting m w g i j p ok))
 fine_after m (w, g) (Close i) ok =
-    fine_office m i (office m i).terminating _ _
+    fine_office m i (terminating (office m i)) _ _
     (λ p. subst (λ (r : ℕ). Fine (with_office m i (at_round (closed_termination m.n (office m i) (heard_in m.termination i (office m i).round) (heard_in m.termination i ((office m i).round - 1))) r))) (sym (steps.up_ending m w g i p ok)) (_, steps.close_ending m w g i p ok))
     (λ p. subst (λ (r : ℕ). Fine (with_office m i (at_round (closed_voting m.n i (office m i) (heard_in m.voting i (office m i).round)) r))) (sym (steps.up_voting m w g i p ok)) (w, steps.close_voting m w g i p ok))
 fine_after m (w, g) (DropOut i) ok = (w, steps.drop_out m w g i ok)
-fine_after m (w, g) (Notice i j) ok = fine_office m i (office m i).terminating _ _ (λ p. (w, steps.notice_ending m w g i j p ok)) (λ p. (_, steps.notice_voting m w g i j p ok))
+fine_after m (w, g) (Notice i j) ok = fine_office m i (terminating (office m i)) _ _ (λ p. (w, steps.notice_ending m w g i j p ok)) (λ p. (_, steps.notice_voting m w g i j p ok))
 fine_after m (w, g) (Join i) ok = (_, steps.join m w g i ok)
 
 pub fine_step : (m : Model) → Fine m → (c : Call) → Fine (step m c)
@@ -74,11 +74,8 @@ module _ (m : Model) (o : Opening m) where
   pub standing_at : (a : ℕ) → a < m.n → (office m a).standing ≡ true
   standing_at a la = let few = o.few in ap (λ l. (get_or l a nobody).standing) o.all_fresh ∙ ap (λ (x : Office). x.standing) (get_or-replicate 16 a fresh nobody (omega arith))
 
-  round_at : (a : ℕ) → (office m a).round ≤ 1
-  round_at a = elim (fresh_at a) [ inl e ↦ rw e (omega arith) | inr e ↦ rw e (omega arith) ]
-
-  pub in_voting : (a : ℕ) → (office m a).terminating ≡ false
-  in_voting = like (λ o. o.terminating) false refl refl
+  pub in_voting : (a : ℕ) → terminating (office m a) ≡ false
+  in_voting = like terminating false refl refl
 
   no_t : (a : ℕ) → t_of (office m a) ≡ 0
   no_t = like t_of 0 refl refl
@@ -93,9 +90,6 @@ module _ (m : Model) (o : Opening m) where
   no-told : (a j : ℕ) → member (office m a).told j ≡ false
   no-told a j = ap (λ (x : Offices). member x j) (like (λ o. o.told) none refl refl a) ∙ member-none j
 
-  false_true : {b : Bool} → b ≡ false → b ≡ true → ⊥
-  false_true p q = grind arith
-
   no_word : (s d k : ℕ) → m.voting.places s d k ≡ Empty
   no_word s d k = ap (λ (p : Places Knowledge). p s d k) o.voting_unused
 
@@ -103,13 +97,13 @@ module _ (m : Model) (o : Opening m) where
   none_in_place f z s d k j e = no_member (f (content (m.voting.places s d k))) j (ap (λ p. (f (content p)).mask) (no_word s d k) ∙ ap (λ (s : Offices). s.mask) z) e
 
   all_vacant : (s d k : ℕ) → vacant (m.voting.places s d k) ≡ false → ⊥
-  all_vacant s d k e = false_true e (ap vacant (no_word s d k))
+  all_vacant s d k e = both_ways _ e (ap vacant (no_word s d k))
 
   no-ruling : decision_of (class m.n knows_nothing) ≡ None
   unfolding class
   no-ruling = elim (cases_Bool (full m.n none)) [
     | inr q ↦ grind (arith, nat_tests)
-    | inl q ↦ let two = o.two in absurd (false_true (member-none 0) (full_at m.n none q 0 (omega arith)))
+    | inl q ↦ let two = o.two in absurd (both_ways _ (member-none 0) (full_at m.n none q 0 (omega arith)))
   ]
 
   pub start : Good m (λ a k. N)
@@ -139,21 +133,12 @@ module _ (m : Model) (o : Opening m) where
       spoke = λ i j k k1 lt _ _. let z = r_low i in absurd (omega arith);
       took = λ i j k k1 lt _ _. let z = r_low i in absurd (omega arith);
       bounded = λ i. let z = r_low i in omega arith;
-      learnt = λ i l _ e _ _. absurd (false_true (like (λ o. o.voted) false refl refl i) e);
+      learnt = λ i l _ e _ _. absurd (both_ways _ (like (λ o. o.voted) false refl refl i) e);
       learnt_in = λ s d k l e _. absurd (all_vacant s d k e);
       primed = λ i l _ lt _ _. let z = r_low i in let h = o.some_rounds in absurd (omega arith);
       primed_in = λ s d k l e _. absurd (all_vacant s d k e);
     };
-    rec = λ a la. record {
-      word_now = λ e. absurd (false_true (in_voting a) e);
-      prior_now = λ e. absurd (false_true (in_voting a) e);
-      first = λ e. absurd (false_true (in_voting a) e);
-      from = let few = o.few in let q : office m a ≡ fresh = ap (λ l. get_or l a nobody) o.all_fresh ∙ get_or-replicate 16 a fresh nobody (omega arith) in rw q (omega arith);
-      untold = λ _ j. no-told a j;
-      in_voting = λ _. (like (λ o. o.decision) None refl refl a ∙ sym no-ruling ∙ ap (λ k. decision_of (class m.n k)) (sym (like (λ o. o.knowledge) knows_nothing refl refl a)), like (λ o. o.deciding) 0 refl refl a);
-      still_open = λ e. absurd (false_true (in_voting a) e);
-      shut = λ e. absurd (false_true (in_voting a) e);
-    };
+    rec = λ a la. steps.voting_rec _ _ _ (in_voting a) (let few = o.few in let q : office m a ≡ fresh = ap (λ l. get_or l a nobody) o.all_fresh ∙ get_or-replicate 16 a fresh nobody (omega arith) in rw q (omega arith)) (no-told a) (like (λ o. o.decision) None refl refl a ∙ sym no-ruling ∙ ap (λ k. decision_of (class m.n k)) (sym (like (λ o. o.knowledge) knows_nothing refl refl a)));
   }
 
   pub fine : (h : List Call) → Fine (run m h)

@@ -1,7 +1,7 @@
 -- Laws of tests and counts below a number, and of the sums of words. Assumes nothing.
-use Rattle.std.proofs.Common.{◌≡◌, ℕ, zero, suc, ◌<◌, ◌≤◌, Bool, true, false, ◌&&◌, ◌||◌, eqb, ltb, ◌≢◌, ◌⊎◌, Some, None, Option, sym, refl, ap, ◌∙◌, inl, inr, arith}
+use Rattle.std.proofs.Common.{◌≡◌, ℕ, zero, suc, ◌<◌, ◌≤◌, Bool, true, false, ◌&&◌, ◌||◌, eqb, ltb, ◌≢◌, ◌⊎◌, Some, None, Option, List, [], ◌∷◌, ◌++◌, sym, refl, ap, ◌∙◌, inl, inr, arith}
 use lib.Bits.{or_comm, or_self}
-use Rattle.std.proofs.lemmas.Bool.{cases_eq, cases_Bool}
+use Rattle.std.proofs.lemmas.Bool.{both_ways, cases_eq, cases_Bool, cond_both, or_cases, or_left, or_right}
 use Rattle.words.specs.declared.knowledge.Knowledge.{Knowledge}
 use Rattle.words.specs.declared.offices.Offices.{Offices}
 use Rattle.words.specs.declared.term.TermWord.{TermWord}
@@ -13,7 +13,6 @@ use Rattle.words.specs.Terms.{higher}
 use Rattle.words.proofs.Below.{every_decides, some_decides}
 use Rattle.words.specs.MasksLemmas.{or_assoc, bit-bit_or, bit-none, some-bit}
 use Rattle.words.proofs.Members.{member-none, member-added}
-use Rattle.words.proofs.Sums.{sum_append}
 use Rattle.protocol.specs.Hearing.{Heard, listed, words, total}
 use Rattle.protocol.specs.History.{count}
 use Rattle.protocol.specs.Letters.{N, C, A}
@@ -25,19 +24,34 @@ every_at n p = (every_decides p n).0
 pub all_below : (n : ℕ) (p : ℕ → Bool) → ((l : ℕ) → l < n → p l ≡ true) → every n p ≡ true
 all_below n p = (every_decides p n).1
 
-pub every_not : (n : ℕ) (p : ℕ → Bool) → every n p ≡ false → (l : ℕ) × (l < n) × (p l ≡ false)
-unfolding every
-every_not zero p h = absurd (grind arith)
-every_not (suc n) p h = elim (cases_Bool (p n)) [
-  | inl e ↦ let (l, lt, x) = every_not n p (grind arith) in (l, omega arith, x)
-  | inr e ↦ (n, omega arith, e)
+-- a test of the numbers below n finds one that fails, or none fails
+find_not : (n : ℕ) (p : ℕ → Bool) → ((l : ℕ) × (l < n) × (p l ≡ false)) ⊎ ((l : ℕ) → l < n → p l ≡ true)
+find_not zero p = inr (λ l lt. absurd (omega arith))
+find_not (suc n) p = elim (find_not n p) [
+  | inl (l, lt, e) ↦ inl (l, omega arith, e)
+  | inr all ↦ elim (cases_Bool (p n)) [
+    | inl e ↦ inr (λ l lt. elim (cases_eq l n) [ inl q ↦ rw q e | inr ne ↦ all l (omega arith) ])
+    | inr e ↦ inl (n, omega arith, e)
+  ]
 ]
+
+pub every_not : (n : ℕ) (p : ℕ → Bool) → every n p ≡ false → (l : ℕ) × (l < n) × (p l ≡ false)
+every_not n p h = elim (find_not n p) [ inl x ↦ x | inr all ↦ absurd (both_ways _ h (all_below n p all)) ]
 
 pub some_at : (n : ℕ) (p : ℕ → Bool) → some n p ≡ true → (l : ℕ) × (l < n) × (p l ≡ true)
 some_at n p = (some_decides p n).0
 
 pub some-from : (n : ℕ) (p : ℕ → Bool) (l : ℕ) → l < n → p l ≡ true → some n p ≡ true
 some-from n p l lt e = (some_decides p n).1 (l, lt, e)
+
+-- one number more
+some_suc : (n : ℕ) (p : ℕ → Bool) → some (suc n) p ≡ (some n p || p n)
+some_suc n p = same_truth _ _
+    (λ e. let (l, lt, x) = some_at (suc n) p e in elim (cases_eq l n) [ inl q ↦ or_right _ _ (rw q at x) | inr ne ↦ or_left _ _ (some-from n p l (omega arith) x) ])
+    (λ e. elim (or_cases (some n p) (p n) e) [ inl y ↦ let (l, lt, x) = some_at n p y in some-from (suc n) p l (omega arith) x | inr x ↦ some-from (suc n) p n (omega arith) x ])
+  where
+    same_truth : (a b : Bool) → (a ≡ true → b ≡ true) → (b ≡ true → a ≡ true) → a ≡ b
+    same_truth a b x y = grind arith
 
 pub count_le : (n : ℕ) (p q : ℕ → Bool) → ((l : ℕ) → l < n → p l ≡ true → q l ≡ true) → count n p ≤ count n q
 unfolding count
@@ -77,6 +91,10 @@ some-member s ne = some-bit s.mask ne
 pub no_member : (s : Offices) (i : ℕ) → s.mask ≡ 0 → member s i ≡ true → ⊥
 no_member s i z e = let n = bit-none i in grind arith
 
+-- who is in one of two sets of which the other has no bits is in the one
+pub in_one : (s : Offices) (x : ℕ) → s.mask ≡ 0 → (b : Bool) → (b || member s x) ≡ true → b ≡ true
+in_one s x e b h = elim (or_cases b (member s x) h) [ inl y ↦ y | inr m ↦ absurd (no_member s x e m) ]
+
 -- Termination words.
 pub join_N : (a b : TermWord) → higher a b ≡ N → (a ≡ N) × (b ≡ N)
 join_N a b h = grind arith
@@ -84,11 +102,17 @@ join_N a b h = grind arith
 pub join_C : (a b : TermWord) → a ≢ C → b ≢ C → higher a b ≢ C
 join_C a b p q = grind arith
 
-pub join_C_one : (a b : TermWord) → higher a b ≡ C → (a ≡ C) ⊎ (b ≡ C)
-join_C_one a b h = grind arith
+pub join_one : (w : TermWord) → w ≢ N → (a b : TermWord) → higher a b ≡ w → (a ≡ w) ⊎ (b ≡ w)
+join_one w ne a b h = grind arith
 
-pub join_A_one : (a b : TermWord) → higher a b ≡ A → (a ≡ A) ⊎ (b ≡ A)
-join_A_one a b h = grind arith
+pub join_A : (a b : TermWord) → (a ≡ A) ⊎ (b ≡ A) → higher a b ≡ A
+join_A a b e = grind arith
+
+pub C≢N : C ≢ N
+C≢N e = grind arith
+
+pub A≢N : A ≢ N
+A≢N e = grind arith
 
 -- the word, or the empty word where none was heard
 abbrev pub word_or : {W : Type 0} → W → Option W → W
@@ -98,13 +122,17 @@ word_or d (Some w) = w
 -- one office more in the sum of what was heard
 module _ {W : Type 0} (nil : W) (join : W → W → W)
     (assoc : (x y z : W) → join (join x y) z ≡ join x (join y z)) (comm : (x y : W) → join x y ≡ join y x) (idem : (x : W) → join x x ≡ x) (unit : (x : W) → join nil x ≡ x) where
+  sum_append : (xs ys : List W) → sum_of nil join (xs ++ ys) ≡ join (sum_of nil join xs) (sum_of nil join ys)
+  sum_append [] ys = sym (unit _)
+  sum_append (x ∷ xs) ys = ap (join x) (sum_append xs ys) ∙ sym (assoc x _ _)
+
   sum_listed : (x : Option W) → sum_of nil join (listed x) ≡ word_or nil x
   sum_listed None = refl
   sum_listed (Some w) = comm w nil ∙ unit w
 
   pub sum_next : (n : ℕ) (q : Heard W) → sum_of nil join (words (suc n) q) ≡ join (sum_of nil join (words n q)) (word_or nil (q n))
   unfolding words
-  sum_next n q = sum_append nil join assoc comm idem unit (words n q) (listed (q n)) ∙ ap (join (sum_of nil join (words n q))) (sum_listed (q n))
+  sum_next n q = sum_append (words n q) (listed (q n)) ∙ ap (join (sum_of nil join (words n q))) (sum_listed (q n))
 
 -- the sum of the termination words that were heard
 abbrev pub sum_term : ℕ → Heard TermWord → TermWord
@@ -124,26 +152,15 @@ unfolding words
 sum_C zero q h = grind arith
 sum_C (suc n) q h = rw (next_term n q) (join_C (sum_term n q) (word_or N (q n)) (sum_C n q (λ l lt. h l (omega arith))) (h n (omega arith)))
 
-high_A : (a b : TermWord) → (a ≡ A) ⊎ (b ≡ A) → higher a b ≡ A
-high_A a b e = grind arith
-
 pub sum_A : (n : ℕ) (q : Heard TermWord) (l : ℕ) → l < n → word_or N (q l) ≡ A → sum_term n q ≡ A
 sum_A zero q l lt e = grind arith
-sum_A (suc n) q l lt e = next_term n q ∙ high_A _ _ (elim (cases_eq l n) [ inl s ↦ inr (rw s at e) | inr ne ↦ inl (sum_A n q l (omega arith) e) ])
+sum_A (suc n) q l lt e = next_term n q ∙ join_A _ _ (elim (cases_eq l n) [ inl s ↦ inr (rw s at e) | inr ne ↦ inl (sum_A n q l (omega arith) e) ])
 
-pub sum_C_at : (n : ℕ) (q : Heard TermWord) → sum_term n q ≡ C → (l : ℕ) × (l < n) × (word_or N (q l) ≡ C)
+pub sum_at : (w : TermWord) → w ≢ N → (n : ℕ) (q : Heard TermWord) → sum_term n q ≡ w → (l : ℕ) × (l < n) × (word_or N (q l) ≡ w)
 unfolding words
-sum_C_at zero q h = absurd (grind arith)
-sum_C_at (suc n) q h = elim (join_C_one _ _ (sym (next_term n q) ∙ h)) [
-  | inl e ↦ let (l, lt, x) = sum_C_at n q e in (l, omega arith, x)
-  | inr e ↦ (n, omega arith, e)
-]
-
-pub sum_A_at : (n : ℕ) (q : Heard TermWord) → sum_term n q ≡ A → (l : ℕ) × (l < n) × (word_or N (q l) ≡ A)
-unfolding words
-sum_A_at zero q h = absurd (grind arith)
-sum_A_at (suc n) q h = elim (join_A_one _ _ (sym (next_term n q) ∙ h)) [
-  | inl e ↦ let (l, lt, x) = sum_A_at n q e in (l, omega arith, x)
+sum_at w nn zero q h = absurd (nn (sym h))
+sum_at w nn (suc n) q h = elim (join_one w nn _ _ (sym (next_term n q) ∙ h)) [
+  | inl e ↦ let (l, lt, x) = sum_at w nn n q e in (l, omega arith, x)
   | inr e ↦ (n, omega arith, e)
 ]
 
@@ -166,31 +183,27 @@ next_knowledge = sum_next knows_nothing pooled (λ x y z. simp or_assoc) (λ x y
 abbrev pub told_by : Heard Knowledge → ℕ → Knowledge
 told_by q l = word_or knows_nothing (q l)
 
-or_swap : (a b : Bool) → (a || b) ≡ (b || a)
-or_swap a b = grind arith
-
 -- one of the three sets, f, of the sum
 sum_set : (f : Knowledge → Offices) → f knows_nothing ≡ none → ((a b : Knowledge) → f (pooled a b) ≡ union (f a) (f b)) → (n : ℕ) (q : Heard Knowledge) (j : ℕ) → member (f (sum_knowledge n q)) j ≡ some n (λ l. member (f (told_by q l)) j)
 unfolding words some
 sum_set f z u zero q j = ap (λ (s : Offices). member s j) z ∙ member-none j
 sum_set f z u (suc n) q j =
     ap (λ k. member (f k) j) (next_knowledge n q) ∙ ap (λ (s : Offices). member s j) (u (sum_knowledge n q) (told_by q n)) ∙ member_union (f (sum_knowledge n q)) (f (told_by q n)) j
-    ∙ ap (λ b. b || member (f (told_by q n)) j) (sum_set f z u n q j) ∙ or_swap (some n (λ l. member (f (told_by q l)) j)) (member (f (told_by q n)) j)
+    ∙ ap (λ b. b || member (f (told_by q n)) j) (sum_set f z u n q j) ∙ sym (some_suc n (λ l. member (f (told_by q l)) j))
 
 module _ (n i : ℕ) (own : Knowledge) (q : Heard Knowledge) (j : ℕ) where
+  -- one of the two sets, f, that no readying changes
+  closed_set : (f : Knowledge → Offices) → f knows_nothing ≡ none → ((a b : Knowledge) → f (pooled a b) ≡ union (f a) (f b)) → ((k : Knowledge) → f (readied n i k) ≡ f k) → member (f (learns n i own q)) j ≡ (member (f own) j || some n (λ l. member (f (told_by q l)) j))
+  unfolding total
+  closed_set f z u kept = ap (λ (s : Offices). member s j) (kept (total knows_nothing pooled n own q) ∙ u own (sum_knowledge n q)) ∙ member_union (f own) (f (sum_knowledge n q)) j ∙ ap (λ b. member (f own) j || b) (sum_set f z u n q j)
+
   pub closed-yes : member (learns n i own q).yes j ≡ (member own.yes j || some n (λ l. member (told_by q l).yes j))
-  unfolding readied total
-  closed-yes = kept ∙ member_union own.yes (sum_knowledge n q).yes j ∙ ap (λ b. member own.yes j || b) (sum_set (λ k. k.yes) refl (λ a b. refl) n q j)
-    where
-      kept : member (learns n i own q).yes j ≡ member (total knows_nothing pooled n own q).yes j
-      kept = grind arith
+  unfolding readied
+  closed-yes = closed_set (λ k. k.yes) refl (λ a b. refl) (λ k. cond_both (full n k.yes) _ _ (λ (x : Knowledge). x.yes ≡ k.yes) (λ _. refl) (λ _. refl))
 
   pub closed-no : member (learns n i own q).no j ≡ (member own.no j || some n (λ l. member (told_by q l).no j))
-  unfolding readied total
-  closed-no = kept ∙ member_union own.no (sum_knowledge n q).no j ∙ ap (λ b. member own.no j || b) (sum_set (λ k. k.no) refl (λ a b. refl) n q j)
-    where
-      kept : member (learns n i own q).no j ≡ member (total knows_nothing pooled n own q).no j
-      kept = grind arith
+  unfolding readied
+  closed-no = closed_set (λ k. k.no) refl (λ a b. refl) (λ k. cond_both (full n k.yes) _ _ (λ (x : Knowledge). x.no ≡ k.no) (λ _. refl) (λ _. refl))
 
   pub closed-ready : member (learns n i own q).ready j ≡ ((member own.ready j || some n (λ l. member (told_by q l).ready j)) || (full n (learns n i own q).yes && (eqb j i && ltb i 16)))
   unfolding readied total

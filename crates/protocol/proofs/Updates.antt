@@ -27,6 +27,6 @@ unfolding at3
 at3_is f i j k v a b c = grind (arith, nat_tests)
 
 -- a post with one place filled
-pub filled_is : {W : Type 0} (p : Mail W) (s r k : ℕ) (x : Place W) → ◌≡◌ {A = Mail W} (record { reach = p.reach; places = at3 p.places s r k x }) (filled p s r k x)
+pub filled_is : {W : Type 0} (p : Mail W) (s r k : ℕ) (x : Place W) → ◌≡◌ {A = Mail W} (record p { places = at3 p.places s r k x }) (filled p s r k x)
 unfolding at3 filled
 filled_is p s r k x = refl

@@ -17,12 +17,13 @@ use Rattle.protocol.proofs.Updates.{at1, at1_is}
 use Rattle.protocol.proofs.Net.{Net, Deed, May, does, fate_at, Sound}
 use Rattle.protocol.proofs.NetKeeps.{word_kept, fate_kept, dropped_kept}
 use Rattle.protocol.proofs.Voting.{Votes, Fair}
+use Rattle.protocol.specs.Records.{prior, terminating, word}
 
 abbrev pub t_of : Office → ℕ
-t_of o = cond o.terminating o.round 0
+t_of o = cond (terminating o) o.round 0
 
 abbrev pub r_of : Office → ℕ
-r_of o = cond o.terminating 0 o.round
+r_of o = cond (terminating o) 0 o.round
 
 abbrev pub net_of : ℕ → Mail TermWord → (ℕ → ℕ → TermWord) → (ℕ → Office) → Net
 net_of n p w off = record { n = n; reach = p.reach; place = p.places; word = w; t = λ a. t_of (off a); dropped = λ a. not (off a).standing; told = λ a b. member (off a).told b }
@@ -38,16 +39,16 @@ votes m = votes_of m.n m.h m.names m.voting (office m)
 
 -- what a record says, beside the words of the termination
 pub record Rec (s : Net) (i : ℕ) (o : Office) : Type 0 where
-  pub word_now : o.terminating ≡ true → o.word ≡ s.word i o.round
-  pub prior_now : o.terminating ≡ true → o.prior ≡ s.word i (o.round - 1)
-  pub first : o.terminating ≡ true → s.word i 1 ≡ first_word (class s.n o.knowledge)
+  pub word_now : terminating o ≡ true → word o ≡ s.word i o.round
+  pub prior_now : terminating o ≡ true → prior o ≡ s.word i (o.round - 1)
+  pub first : terminating o ≡ true → s.word i 1 ≡ first_word (class s.n o.knowledge)
   pub from : 1 ≤ o.round
-  pub untold : o.terminating ≡ false → (j : ℕ) → member o.told j ≡ false
-  pub in_voting : o.terminating ≡ false → (o.decision ≡ decision_of (class s.n o.knowledge)) × (o.deciding ≡ 0)
-  pub still_open : o.terminating ≡ true → o.decision ≡ None → (decision_of (class s.n o.knowledge) ≡ None) × (o.deciding ≡ 0) × (o.round ≤ suc (count s.n s.dropped)) × ((k : ℕ) → 1 ≤ k → k < o.round → fate_at s i k ≡ None)
-  pub shut : o.terminating ≡ true → o.decision ≢ None →
-      ((o.deciding ≡ 0) × (o.round ≡ 1) × (o.decision ≡ decision_of (class s.n o.knowledge)))
-      ⊎ ((1 ≤ o.deciding) × (o.round ≡ suc o.deciding) × (o.decision ≡ fate_at s i o.deciding) × (decision_of (class s.n o.knowledge) ≡ None) × ((k : ℕ) → 1 ≤ k → k < o.deciding → fate_at s i k ≡ None))
+  pub untold : terminating o ≡ false → (j : ℕ) → member o.told j ≡ false
+  pub in_voting : terminating o ≡ false → o.decision ≡ decision_of (class s.n o.knowledge)
+  pub still_open : terminating o ≡ true → o.decision ≡ None → (o.round ≤ suc (count s.n s.dropped)) × ((k : ℕ) → 1 ≤ k → k < o.round → fate_at s i k ≡ None)
+  pub shut : terminating o ≡ true → o.decision ≢ None →
+      ((o.round ≡ 1) × (o.decision ≡ decision_of (class s.n o.knowledge)))
+      ⊎ ((k : ℕ) × (1 ≤ k) × (o.round ≡ suc k) × (o.decision ≡ fate_at s i k))
 
 -- what no call changes
 pub record Fixed (m : Model) : Type 0 where
@@ -76,20 +77,20 @@ rec_kept s c a o ok te r = record {
   from = r.from;
   untold = r.untold;
   in_voting = r.in_voting;
-  still_open = λ e u. let (x, y, z, f) = r.still_open e u in let d = dropped_kept s c ok in (x, y, omega arith, λ k k1 lt. sym (stays k (low e k lt)) ∙ f k k1 lt);
+  still_open = λ e u. let (z, f) = r.still_open e u in let d = dropped_kept s c ok in (omega arith, λ k k1 lt. sym (stays k (low e k lt)) ∙ f k k1 lt);
   shut = λ e u. elim (r.shut e u) [
     | inl x ↦ inl x
-    | inr (a1, b, d, z, f) ↦ inr (a1, b, d ∙ stays o.deciding (low e o.deciding (omega arith)), z, λ k k1 lt. sym (stays k (low e k (omega arith))) ∙ f k k1 lt)
+    | inr (k, k1, b, d) ↦ inr (k, k1, b, d ∙ stays k (low e k (omega arith)))
   ];
 }
   where
-    here : o.terminating ≡ true → o.round ≤ s.t a
+    here : terminating o ≡ true → o.round ≤ s.t a
     here e = grind arith
 
-    one : o.terminating ≡ true → 1 ≤ s.t a
+    one : terminating o ≡ true → 1 ≤ s.t a
     one e = let f = r.from in grind arith
 
-    low : o.terminating ≡ true → (k : ℕ) → k < o.round → k < s.t a
+    low : terminating o ≡ true → (k : ℕ) → k < o.round → k < s.t a
     low e k lt = grind arith
 
     stays : (k : ℕ) → k < s.t a → fate_at s a k ≡ fate_at (does s c) a k

@@ -1,7 +1,7 @@
 -- Each move of the voting keeps what Fair says. Assumes nothing.
-use Rattle.std.proofs.Common.{◌≡◌, ℕ, suc, ◌+◌, ◌-◌, ◌<◌, ◌≤◌, Bool, true, false, ◌&&◌, ◌||◌, eqb, ltb, ◌⊎◌, Option, sym, ap, ◌∙◌, subst, inl, inr, arith}
+use Rattle.std.proofs.Common.{◌≡◌, ℕ, suc, ◌+◌, ◌-◌, ◌<◌, ◌≤◌, Bool, true, false, ◌&&◌, ◌||◌, eqb, ltb, ◌⊎◌, Option, sym, refl, ap, ◌∙◌, subst, inl, inr, arith}
 use Rattle.std.proofs.lemmas.Bool.Decides.{nat_tests}
-use Rattle.std.proofs.lemmas.Bool.{cases_eq, cases_Bool, or_cases, or_left, or_right}
+use Rattle.std.proofs.lemmas.Bool.{both_ways, cases_eq, cases_Bool, or_cases, or_left, or_right}
 use Rattle.words.specs.declared.knowledge.Knowledge.{Knowledge}
 use Rattle.words.specs.declared.offices.Offices.{Offices}
 use Rattle.words.specs.Knowledge.{knows_nothing}
@@ -12,7 +12,7 @@ use Rattle.posts.specs.declared.place.Place.TheVariants.{Waiting}
 use Rattle.posts.specs.Places.{vacant}
 use Rattle.protocol.specs.Hearing.{heard}
 use Rattle.protocol.specs.Model.{plan_round}
-use Rattle.protocol.proofs.Sums.{every_at, some_at, some-from, full_at, full_from, some-member, no_member, told_by, word_or, closed-yes, closed-no, closed-ready}
+use Rattle.protocol.proofs.Sums.{every_at, some_at, some-from, full_at, full_from, some-member, no_member, in_one, told_by, word_or, closed-yes, closed-no, closed-ready}
 use Rattle.protocol.proofs.Updates.{at1_is, at3_is}
 use Rattle.protocol.proofs.Voting.{Votes, Move, yes, no, close, leave, say, hear, last, named, is_taken, spoken, listened, Can, closed_known, moved, content, has_yes, has_no, has_ready, Knew, Reached, Lies, Fair, Plan}
 
@@ -20,78 +20,62 @@ ruleset kept = (arith, nat_tests, at1_is, at3_is)
 
 ruleset sets = (kept, member-added, member-none)
 
-module _ (u : Votes) where
-  pub heard-yes : (p : Place Knowledge) (j : ℕ) → member (word_or knows_nothing (heard p)).yes j ≡ true → member (content p).yes j ≡ true
-  heard-yes p j e = let z = member-none j in grind arith
+-- who is in a set f of what was heard is in that set of the word in the place
+pub heard_set : (f : Knowledge → Offices) → f knows_nothing ≡ none → (p : Place Knowledge) (j : ℕ) → member (f (word_or knows_nothing (heard p))) j ≡ true → member (f (content p)) j ≡ true
+heard_set f z (Waiting x) j e = absurd (both_ways _ (member-none j) (ap (λ (s : Offices). member s j) (sym z) ∙ e))
+heard_set f z _ j e = e
 
+module _ (u : Votes) where
   grows_yes : (v : Move) → Can u v → (a j : ℕ) → has_yes u a j ≡ true → has_yes (moved u v) a j ≡ true
   grows_yes (yes i) g a j e = grind sets
   grows_yes (no i) g a j e = grind sets
-  grows_yes (say i b) g a j e = e
-  grows_yes (hear i b) g a j e = e
   grows_yes (close i) g a j e = let c = closed-yes u.n i (u.knowledge i) (λ l. heard (u.place l i (u.r i))) j in grind kept
-  grows_yes (leave i) g a j e = e
-
-  pub heard-no : (p : Place Knowledge) (j : ℕ) → member (word_or knows_nothing (heard p)).no j ≡ true → member (content p).no j ≡ true
-  heard-no p j e = let z = member-none j in grind arith
+  grows_yes _ g a j e = e
 
   grows_no : (v : Move) → Can u v → (a j : ℕ) → has_no u a j ≡ true → has_no (moved u v) a j ≡ true
   grows_no (yes i) g a j e = grind sets
   grows_no (no i) g a j e = grind sets
-  grows_no (say i b) g a j e = e
-  grows_no (hear i b) g a j e = e
   grows_no (close i) g a j e = let c = closed-no u.n i (u.knowledge i) (λ l. heard (u.place l i (u.r i))) j in grind kept
-  grows_no (leave i) g a j e = e
-
-  pub heard-ready : (p : Place Knowledge) (j : ℕ) → member (word_or knows_nothing (heard p)).ready j ≡ true → member (content p).ready j ≡ true
-  heard-ready p j e = let z = member-none j in grind arith
+  grows_no _ g a j e = e
 
   grows_ready : (v : Move) → Can u v → (a j : ℕ) → has_ready u a j ≡ true → has_ready (moved u v) a j ≡ true
   grows_ready (yes i) g a j e = grind sets
   grows_ready (no i) g a j e = grind sets
-  grows_ready (say i b) g a j e = e
-  grows_ready (hear i b) g a j e = e
   grows_ready (close i) g a j e = let c = closed-ready u.n i (u.knowledge i) (λ l. heard (u.place l i (u.r i))) j in grind kept
-  grows_ready (leave i) g a j e = e
+  grows_ready _ g a j e = e
 
   -- who is in a yes after a move was in one before, or has just voted
   pub yes_origin : Fair u → (v : Move) → Can u v → (a j : ℕ) → has_yes (moved u v) a j ≡ true → (v ≡ yes j) ⊎ ((l : ℕ) × (has_yes u l j ≡ true))
   yes_origin f (yes i) g a j e = elim (cases_Bool (has_yes u a j)) [ inl q ↦ inr (a, q) | inr q ↦ elim (cases_eq i j) [ inl s ↦ inl (ap yes s) | inr ne ↦ absurd (let z = member-added (u.knowledge i).yes i j in grind kept) ] ]
   yes_origin f (no i) g a j e = inr (a, grind kept)
-  yes_origin f (say i b) g a j e = inr (a, e)
-  yes_origin f (hear i b) g a j e = inr (a, e)
   yes_origin f (close i) g a j e = inr (elim (at1_is u.knowledge i (closed_known u i) a) [
     | inr (ne, q) ↦ (a, ap (λ k. member k.yes j) (sym q) ∙ e)
     | inl (s, q) ↦ elim (or_cases _ _ (sym (closed-yes u.n i (u.knowledge i) (λ l. heard (u.place l i (u.r i))) j) ∙ ap (λ k. member k.yes j) (sym q) ∙ e)) [
       | inl own ↦ (i, own)
       | inr other ↦ let (l, ll, x) = some_at u.n (λ l. member (told_by (λ l. heard (u.place l i (u.r i))) l).yes j) other in
-          (l, f.in_yes l i (u.r i) j (heard-yes (u.place l i (u.r i)) j x))
+          (l, f.in_yes l i (u.r i) j (heard_set (λ k. k.yes) refl (u.place l i (u.r i)) j x))
     ]
   ])
-  yes_origin f (leave i) g a j e = inr (a, e)
+  yes_origin f _ g a j e = inr (a, e)
 
   -- who is in a no after a move was in one before, or has just voted
   pub no_origin : Fair u → (v : Move) → Can u v → (a j : ℕ) → has_no (moved u v) a j ≡ true → (v ≡ no j) ⊎ ((l : ℕ) × (has_no u l j ≡ true))
   no_origin f (yes i) g a j e = inr (a, grind kept)
   no_origin f (no i) g a j e = elim (cases_Bool (has_no u a j)) [ inl q ↦ inr (a, q) | inr q ↦ elim (cases_eq i j) [ inl s ↦ inl (ap no s) | inr ne ↦ absurd (let z = member-added (u.knowledge i).no i j in grind kept) ] ]
-  no_origin f (say i b) g a j e = inr (a, e)
-  no_origin f (hear i b) g a j e = inr (a, e)
   no_origin f (close i) g a j e = inr (elim (at1_is u.knowledge i (closed_known u i) a) [
     | inr (ne, q) ↦ (a, ap (λ k. member k.no j) (sym q) ∙ e)
     | inl (s, q) ↦ elim (or_cases _ _ (sym (closed-no u.n i (u.knowledge i) (λ l. heard (u.place l i (u.r i))) j) ∙ ap (λ k. member k.no j) (sym q) ∙ e)) [
       | inl own ↦ (i, own)
       | inr other ↦ let (l, ll, x) = some_at u.n (λ l. member (told_by (λ l. heard (u.place l i (u.r i))) l).no j) other in
-          (l, f.in_no l i (u.r i) j (heard-no (u.place l i (u.r i)) j x))
+          (l, f.in_no l i (u.r i) j (heard_set (λ k. k.no) refl (u.place l i (u.r i)) j x))
     ]
   ])
-  no_origin f (leave i) g a j e = inr (a, e)
+  no_origin f _ g a j e = inr (a, e)
 
   -- who is in a ready after a move was in one before, or has yes full
   ready_origin : Fair u → (v : Move) → Can u v → (a j : ℕ) → has_ready (moved u v) a j ≡ true → (full u.n ((moved u v).knowledge j).yes ≡ true) ⊎ ((l : ℕ) × (has_ready u l j ≡ true))
   ready_origin f (yes i) g a j e = inr (a, grind kept)
   ready_origin f (no i) g a j e = inr (a, grind kept)
-  ready_origin f (say i b) g a j e = inr (a, e)
-  ready_origin f (hear i b) g a j e = inr (a, e)
   ready_origin f (close i) g a j e = elim (at1_is u.knowledge i (closed_known u i) a) [
     | inr (ne, q) ↦ inr (a, ap (λ k. member k.ready j) (sym q) ∙ e)
     | inl (s, q) ↦ elim (or_cases _ _ (sym (closed-ready u.n i (u.knowledge i) (λ l. heard (u.place l i (u.r i))) j) ∙ ap (λ k. member k.ready j) (sym q) ∙ e)) [
@@ -99,22 +83,18 @@ module _ (u : Votes) where
       | inl old ↦ inr (elim (or_cases _ _ old) [
         | inl own ↦ (i, own)
         | inr other ↦ let (l, ll, x) = some_at u.n (λ l. member (told_by (λ l. heard (u.place l i (u.r i))) l).ready j) other in
-            (l, f.in_ready l i (u.r i) j (heard-ready (u.place l i (u.r i)) j x))
+            (l, f.in_ready l i (u.r i) j (heard_set (λ k. k.ready) refl (u.place l i (u.r i)) j x))
       ])
     ]
   ]
-  ready_origin f (leave i) g a j e = inr (a, e)
+  ready_origin f _ g a j e = inr (a, e)
 
   full_moved : (v : Move) → Can u v → (a : ℕ) → full u.n (u.knowledge a).yes ≡ true → full u.n ((moved u v).knowledge a).yes ≡ true
   full_moved v g a e = full_from u.n _ (λ l ll. grows_yes v g a l (full_at u.n _ e l ll))
 
   voter : (v : Move) (j : ℕ) → Can u v → (v ≡ yes j) ⊎ (v ≡ no j) → (j < u.n) × (u.voted j ≡ false)
   voter (yes i) j g e = grind arith
-  voter (no i) j g e = grind arith
-  voter (say a b) j g e = grind arith
-  voter (hear a b) j g e = grind arith
-  voter (close a) j g e = grind arith
-  voter (leave a) j g e = grind arith
+  voter _ j g e = grind arith
 
   just_yes : Plan u → (j : ℕ) → j < u.n → has_yes (moved u (yes j)) j j ≡ true
   just_yes c j lj = let few = c.few in let j16 : j < 16 = omega arith in let z = member-added (u.knowledge j).yes j j in grind kept
@@ -144,10 +124,10 @@ module _ (u : Votes) where
   one_vote' f v g j y x = elim (yes_origin f v g j j y) [
     | inl q ↦ elim (no_origin f v g j j x) [
       | inl q' ↦ differ v j q q'
-      | inr (l, b) ↦ let (_, c) = f.no_own l j b in let (_, z) = unvoted_none f j (voter v j g (inl q)).1 in clash _ c z
+      | inr (l, b) ↦ let (_, c) = f.no_own l j b in let (_, z) = unvoted_none f j (voter v j g (inl q)).1 in both_ways _ z c
     ]
     | inr (l, a) ↦ let (_, d) = f.yes_own l j a in elim (no_origin f v g j j x) [
-      | inl q' ↦ let (z, _) = unvoted_none f j (voter v j g (inr q')).1 in clash _ d z
+      | inl q' ↦ let (z, _) = unvoted_none f j (voter v j g (inr q')).1 in both_ways _ z d
       | inr (l', b) ↦ f.one_vote j d (f.no_own l' j b).1
     ]
   ]
@@ -155,81 +135,35 @@ module _ (u : Votes) where
       differ : (v : Move) (j : ℕ) → v ≡ yes j → v ≡ no j → ⊥
       differ v j p q = grind arith
 
-      clash : (b : Bool) → b ≡ true → b ≡ false → ⊥
-      clash b p q = grind arith
-
-  in_yes' : Fair u → (v : Move) → Can u v → (s d k j : ℕ) → member (content ((moved u v).place s d k)).yes j ≡ true → has_yes (moved u v) s j ≡ true
-  in_yes' f v g s d k j e = grows_yes v g s j (before v e)
-    where
-      before : (v : Move) → member (content ((moved u v).place s d k)).yes j ≡ true → has_yes u s j ≡ true
-      before (yes i) e = f.in_yes s d k j e
-      before (no i) e = f.in_yes s d k j e
-      before (say i b) e = let q = f.in_yes s d k j in grind kept
-      before (hear i b) e = let q = f.in_yes s d k j in grind kept
-      before (close i) e = f.in_yes s d k j e
-      before (leave i) e = f.in_yes s d k j e
-
-  in_no' : Fair u → (v : Move) → Can u v → (s d k j : ℕ) → member (content ((moved u v).place s d k)).no j ≡ true → has_no (moved u v) s j ≡ true
-  in_no' f v g s d k j e = grows_no v g s j (before v e)
-    where
-      before : (v : Move) → member (content ((moved u v).place s d k)).no j ≡ true → has_no u s j ≡ true
-      before (yes i) e = f.in_no s d k j e
-      before (no i) e = f.in_no s d k j e
-      before (say i b) e = let q = f.in_no s d k j in grind kept
-      before (hear i b) e = let q = f.in_no s d k j in grind kept
-      before (close i) e = f.in_no s d k j e
-      before (leave i) e = f.in_no s d k j e
-
-  in_ready' : Fair u → (v : Move) → Can u v → (s d k j : ℕ) → member (content ((moved u v).place s d k)).ready j ≡ true → has_ready (moved u v) s j ≡ true
-  in_ready' f v g s d k j e = grows_ready v g s j (before v e)
-    where
-      before : (v : Move) → member (content ((moved u v).place s d k)).ready j ≡ true → has_ready u s j ≡ true
-      before (yes i) e = f.in_ready s d k j e
-      before (no i) e = f.in_ready s d k j e
-      before (say i b) e = let q = f.in_ready s d k j in grind kept
-      before (hear i b) e = let q = f.in_ready s d k j in grind kept
-      before (close i) e = f.in_ready s d k j e
-      before (leave i) e = f.in_ready s d k j e
+  -- a set f that its sender has of every word before a move, it has of every word after it
+  in_place : (f : Knowledge → Offices) → ((s d k j : ℕ) → member (f (content (u.place s d k))) j ≡ true → member (f (u.knowledge s)) j ≡ true) → (v : Move) (s d k j : ℕ) → member (f (content ((moved u v).place s d k))) j ≡ true → member (f (u.knowledge s)) j ≡ true
+  in_place f own (say i b) s d k j e = let q = own s d k j in grind kept
+  in_place f own (hear i b) s d k j e = let q = own s d k j in grind kept
+  in_place f own _ s d k j e = own s d k j e
 
   blank' : (v : Move) → Can u v → (i : ℕ) → (u.voted i ≡ false → (u.knowledge i ≡ knows_nothing) × (u.r i ≤ 1)) → (moved u v).voted i ≡ false → ((moved u v).knowledge i ≡ knows_nothing) × ((moved u v).r i ≤ 1)
-  blank' (yes a) g i b e = grind kept
-  blank' (no a) g i b e = grind kept
   blank' (say a c) g i b e = b e
   blank' (hear a c) g i b e = b e
-  blank' (close a) g i b e = grind kept
-  blank' (leave a) g i b e = grind kept
+  blank' _ g i b e = grind kept
 
   lies' : (v : Move) → Can u v → (s d k : ℕ) → Lies u s d k → Lies (moved u v) s d k
   lies' (yes a) g s d k b = grind kept
-  lies' (no a) g s d k b = grind kept
-  lies' (say a c) g s d k b = grind kept
-  lies' (hear a c) g s d k b = grind kept
-  lies' (close a) g s d k b = grind kept
-  lies' (leave a) g s d k b = grind kept
+  lies' _ g s d k b = grind kept
 
   round' : (v : Move) → Can u v → (i k : ℕ) → 1 ≤ k → k < (moved u v).r i → (k < u.r i) ⊎ ((v ≡ close i) × (k ≡ u.r i))
-  round' (yes a) g i k k1 lt = inl lt
-  round' (no a) g i k k1 lt = inl lt
-  round' (say a c) g i k k1 lt = inl lt
-  round' (hear a c) g i k k1 lt = inl lt
   round' (close a) g i k k1 lt = grind kept
   round' (leave a) g i k k1 lt = grind kept
+  round' _ g i k k1 lt = inl lt
 
   filled' : (v : Move) → Can u v → (s d k : ℕ) → vacant (u.place s d k) ≡ false → vacant ((moved u v).place s d k) ≡ false
-  filled' (yes a) g s d k b = b
-  filled' (no a) g s d k b = b
   filled' (say a c) g s d k b = grind kept
   filled' (hear a c) g s d k b = grind kept
-  filled' (close a) g s d k b = b
-  filled' (leave a) g s d k b = b
+  filled' _ g s d k b = b
 
   taken' : (v : Move) → Can u v → (s d k : ℕ) → is_taken (u.place s d k) ≡ true → is_taken ((moved u v).place s d k) ≡ true
-  taken' (yes a) g s d k b = b
-  taken' (no a) g s d k b = b
   taken' (say a c) g s d k b = grind kept
   taken' (hear a c) g s d k b = grind kept
-  taken' (close a) g s d k b = b
-  taken' (leave a) g s d k b = b
+  taken' _ g s d k b = b
 
   spoke_now : (i j : ℕ) → Can u (close i) → j < u.n → named u (u.r i) i j ≡ true → vacant (u.place i j (u.r i)) ≡ false
   spoke_now i j (_, _, _, _, e, _) lj nm = let q = every_at u.n (spoken u i) e j lj in grind arith
@@ -250,12 +184,9 @@ module _ (u : Votes) where
   ])
 
   bounded' : (v : Move) → Can u v → (i : ℕ) → u.r i ≤ suc (u.h + u.h) → (moved u v).r i ≤ suc (u.h + u.h)
-  bounded' (yes a) g i b = b
-  bounded' (no a) g i b = b
-  bounded' (say a c) g i b = b
-  bounded' (hear a c) g i b = b
   bounded' (close a) g i b = grind kept
   bounded' (leave a) g i b = grind kept
+  bounded' _ g i b = b
 
   -- a word that i has taken counts in its closing
   heard-taken : (p : Place Knowledge) → is_taken p ≡ true → word_or knows_nothing (heard p) ≡ content p
@@ -327,9 +258,6 @@ module _ (u : Votes) where
   self : (i l : ℕ) (b : Bool) → i < 16 → b ≡ true → i ≡ l → (b && (eqb l i && ltb i 16)) ≡ true
   self i l b lt h e = grind (arith, nat_tests)
 
-  in_one : (s : Offices) (x : ℕ) (b : Bool) → s.mask ≡ 0 → (b || member s x) ≡ true → b ≡ true
-  in_one s x b e h = elim (or_cases b (member s x) h) [ inl y ↦ y | inr m ↦ absurd (no_member s x e m) ]
-
   hit_primed : Fair u → Plan u → (i l : ℕ) → Can u (close i) → u.h < suc (u.r i) → (closed_known u i).no.mask ≡ 0 → Knew u (suc (u.r i) - suc u.h) i l → member (closed_known u i).ready l ≡ true
   hit_primed f c i l g lt none e =
       let (li, vi, r1, _, _, _) = g in
@@ -337,7 +265,7 @@ module _ (u : Votes) where
       elim (cases_eq (u.r i) u.h) [
         | inl q ↦
             let z : suc (u.r i) - suc u.h ≡ 0 = omega arith in
-            let yes-full = full_from u.n (closed_known u i).yes (λ x lx. in_one (closed_known u i).no x (member (closed_known u i).yes x) none (hit_learnt f c i x g (inr (omega arith, lx)))) in
+            let yes-full = full_from u.n (closed_known u i).yes (λ x lx. in_one (closed_known u i).no x none (member (closed_known u i).yes x) (hit_learnt f c i x g (inr (omega arith, lx)))) in
             let k = closed-ready u.n i (u.knowledge i) (λ l. heard (u.place l i (u.r i))) l in
             k ∙ or_right _ _ (self i l (full u.n (closed_known u i).yes) (omega arith) yes-full (subst (λ (k : ℕ). Knew u k i l) z e))
         | inr ne ↦
@@ -373,8 +301,6 @@ module _ (u : Votes) where
     | inl (q, _) ↦ let z = fresh_sees f c i a l q g.1 r1 e in or_right (has_yes (moved u (no a)) i l) (has_no (moved u (no a)) i l) (subst (λ (x : ℕ). has_no (moved u (no a)) i x ≡ true) z (subst (λ (x : ℕ). has_no (moved u (no a)) x x ≡ true) (sym q) (just_no c a g.0)))
     | inr (ne, x) ↦ either _ _ _ _ (f.learnt i l li (sym x ∙ vi) r1 e) (grows_yes (no a) g i l) (grows_no (no a) g i l)
   ]
-  learnt' f c (say a b) g i l li vi r1 e = f.learnt i l li vi r1 e
-  learnt' f c (hear a b) g i l li vi r1 e = f.learnt i l li vi r1 e
   learnt' f c (close a) g i l li vi r1 e = elim (at1_is u.r a (suc (u.r a)) i) [
     | inl (q, x) ↦ elim (at1_is u.knowledge a (closed_known u a) i) [
       | inl (_, y) ↦ rw y (hit_learnt f c a l g (subst (λ (z : ℕ). Reached u (suc (u.r a)) z l) q (subst (λ (z : ℕ). Reached u z i l) x e)))
@@ -386,42 +312,35 @@ module _ (u : Votes) where
     | inl (q, x) ↦ absurd (omega arith)
     | inr (ne, x) ↦ f.learnt i l li vi (rw x at r1) (subst (λ (z : ℕ). Reached u z i l) x e)
   ]
+  learnt' f c _ g i l li vi r1 e = f.learnt i l li vi r1 e
 
   -- hearing changes no word
   heard-same : (a b s d k : ℕ) → (vacant ((moved u (hear a b)).place s d k) ≡ vacant (u.place s d k)) × (content ((moved u (hear a b)).place s d k) ≡ content (u.place s d k))
   heard-same a b s d k = grind kept
 
   learnt_in' : Fair u → (v : Move) → Can u v → (s d k l : ℕ) → vacant ((moved u v).place s d k) ≡ false → Reached u k s l → (member (content ((moved u v).place s d k)).yes l || member (content ((moved u v).place s d k)).no l) ≡ true
-  learnt_in' f (yes a) g s d k l e x = f.learnt_in s d k l e x
-  learnt_in' f (no a) g s d k l e x = f.learnt_in s d k l e x
   learnt_in' f (say a b) g s d k l e x = elim (at3_is u.place a b (u.r a) (Waiting (u.knowledge a)) s d k) [
     | inl (p, _, q, y) ↦ let (la, _, va, r1, _, _, _) = g in rw y (f.learnt a l la va r1 (subst (λ (z : ℕ). Reached u z a l) q (subst (λ (z : ℕ). Reached u k z l) p x)))
     | inr (_, y) ↦ rw y (f.learnt_in s d k l (rw y at e) x)
   ]
   learnt_in' f (hear a b) g s d k l e x = let (n, o) = heard-same a b s d k in rw o (f.learnt_in s d k l (sym n ∙ e) x)
-  learnt_in' f (close a) g s d k l e x = f.learnt_in s d k l e x
-  learnt_in' f (leave a) g s d k l e x = f.learnt_in s d k l e x
+  learnt_in' f _ g s d k l e x = f.learnt_in s d k l e x
 
   pub still_open : (a : ℕ) → u.r a ≤ last u a → u.h < u.r a → (u.knowledge a).no.mask ≡ 0
   still_open a le lt = grind (arith, nat_tests)
 
   primed_in' : Fair u → (v : Move) → Can u v → (s d k l : ℕ) → vacant ((moved u v).place s d k) ≡ false → u.h < k → ((content ((moved u v).place s d k)).no.mask ≡ 0) × (Knew u (k - suc u.h) s l → member (content ((moved u v).place s d k)).ready l ≡ true)
-  primed_in' f (yes a) g s d k l e x = f.primed_in s d k l e x
-  primed_in' f (no a) g s d k l e x = f.primed_in s d k l e x
   primed_in' f (say a b) g s d k l e x = elim (at3_is u.place a b (u.r a) (Waiting (u.knowledge a)) s d k) [
     | inl (p, _, q, y) ↦ let (la, _, va, r1, le, _, _) = g in let none = still_open a le (rw q at x) in
         rw y (none, λ w. f.primed a l la (rw q at x) none (subst (λ (z : ℕ). Knew u (z - suc u.h) a l) q (subst (λ (z : ℕ). Knew u (k - suc u.h) z l) p w)))
     | inr (_, y) ↦ rw y (f.primed_in s d k l (rw y at e) x)
   ]
   primed_in' f (hear a b) g s d k l e x = let (n, o) = heard-same a b s d k in rw o (f.primed_in s d k l (sym n ∙ e) x)
-  primed_in' f (close a) g s d k l e x = f.primed_in s d k l e x
-  primed_in' f (leave a) g s d k l e x = f.primed_in s d k l e x
+  primed_in' f _ g s d k l e x = f.primed_in s d k l e x
 
   primed' : Fair u → Plan u → (v : Move) → Can u v → (i l : ℕ) → i < u.n → u.h < (moved u v).r i → ((moved u v).knowledge i).no.mask ≡ 0 → Knew u ((moved u v).r i - suc u.h) i l → has_ready (moved u v) i l ≡ true
   primed' f c (yes a) g i l li lt z e = let b = (f.blank a g.1).1 in let one = c.one in let o : (u.knowledge i).no.mask ≡ 0 → has_ready u i l ≡ true = λ n. f.primed i l li lt n e in grind kept
   primed' f c (no a) g i l li lt z e = let b = (f.blank a g.1).1 in let one = c.one in let o : (u.knowledge i).no.mask ≡ 0 → has_ready u i l ≡ true = λ n. f.primed i l li lt n e in grind kept
-  primed' f c (say a b) g i l li lt z e = f.primed i l li lt z e
-  primed' f c (hear a b) g i l li lt z e = f.primed i l li lt z e
   primed' f c (close a) g i l li lt z e = elim (at1_is u.r a (suc (u.r a)) i) [
     | inl (q, x) ↦ elim (at1_is u.knowledge a (closed_known u a) i) [ inl (_, y) ↦ rw y (hit_primed f c a l g (rw x at lt) (rw y at z) (subst (λ (z : ℕ). Knew u (suc (u.r a) - suc u.h) z l) q (subst (λ (z : ℕ). Knew u (z - suc u.h) i l) x e))) | inr (ne, _) ↦ absurd (ne q) ]
     | inr (ne, x) ↦ elim (at1_is u.knowledge a (closed_known u a) i) [ inl (q, _) ↦ absurd (ne q) | inr (_, y) ↦ rw y (f.primed i l li (rw x at lt) (rw y at z) (subst (λ (z : ℕ). Knew u (z - suc u.h) i l) x e)) ]
@@ -430,6 +349,7 @@ module _ (u : Votes) where
     | inl (q, x) ↦ absurd (omega arith)
     | inr (ne, x) ↦ f.primed i l li (rw x at lt) z (subst (λ (z : ℕ). Knew u (z - suc u.h) i l) x e)
   ]
+  primed' f c _ g i l li lt z e = f.primed i l li lt z e
 
   pub fair_kept : Fair u → Plan u → (v : Move) → Can u v → Fair (moved u v)
   fair_kept f c v g = record {
@@ -438,9 +358,9 @@ module _ (u : Votes) where
     no_own = no_own' f c v g;
     ready_own = ready_own' f v g;
     one_vote = one_vote' f v g;
-    in_yes = in_yes' f v g;
-    in_no = in_no' f v g;
-    in_ready = in_ready' f v g;
+    in_yes = λ s d k j e. grows_yes v g s j (in_place (λ k. k.yes) f.in_yes v s d k j e);
+    in_no = λ s d k j e. grows_no v g s j (in_place (λ k. k.no) f.in_no v s d k j e);
+    in_ready = λ s d k j e. grows_ready v g s j (in_place (λ k. k.ready) f.in_ready v s d k j e);
     lies = λ s d k. lies' v g s d k (f.lies s d k);
     spoke = spoke' f v g;
     took = took' f v g;

@@ -57,39 +57,28 @@ abbrev pub closed_known : Votes → ℕ → Knowledge
 closed_known u i = learns u.n i (u.knowledge i) (λ l. heard (u.place l i (u.r i)))
 
 abbrev pub known_after : Votes → Move → ℕ → Knowledge
-known_after u (yes i) = at1 u.knowledge i (record { yes = added (u.knowledge i).yes i; no = (u.knowledge i).no; ready = (u.knowledge i).ready })
-known_after u (no i) = at1 u.knowledge i (record { yes = (u.knowledge i).yes; no = added (u.knowledge i).no i; ready = (u.knowledge i).ready })
-known_after u (say i j) = u.knowledge
-known_after u (hear i j) = u.knowledge
+known_after u (yes i) = at1 u.knowledge i (record (u.knowledge i) { yes = added (u.knowledge i).yes i })
+known_after u (no i) = at1 u.knowledge i (record (u.knowledge i) { no = added (u.knowledge i).no i })
 known_after u (close i) = at1 u.knowledge i (closed_known u i)
-known_after u (leave i) = u.knowledge
+known_after u _ = u.knowledge
 
 abbrev pub voted-after : Votes → Move → ℕ → Bool
 voted-after u (yes i) = at1 u.voted i true
 voted-after u (no i) = at1 u.voted i true
-voted-after u (say i j) = u.voted
-voted-after u (hear i j) = u.voted
-voted-after u (close i) = u.voted
-voted-after u (leave i) = u.voted
+voted-after u _ = u.voted
 
 abbrev pub round_after : Votes → Move → ℕ → ℕ
-round_after u (yes i) = u.r
-round_after u (no i) = u.r
-round_after u (say i j) = u.r
-round_after u (hear i j) = u.r
 round_after u (close i) = at1 u.r i (suc (u.r i))
 round_after u (leave i) = at1 u.r i 0
+round_after u _ = u.r
 
 abbrev pub place_after : Votes → Move → Places Knowledge
-place_after u (yes i) = u.place
-place_after u (no i) = u.place
 place_after u (say i j) = at3 u.place i j (u.r i) (Waiting (u.knowledge i))
 place_after u (hear i j) = at3 u.place j i (u.r i) (taken (u.place j i (u.r i)))
-place_after u (close i) = u.place
-place_after u (leave i) = u.place
+place_after u _ = u.place
 
 abbrev pub moved : Votes → Move → Votes
-moved u v = record { n = u.n; h = u.h; names = u.names; knowledge = known_after u v; voted = voted-after u v; r = round_after u v; place = place_after u v }
+moved u v = record u { knowledge = known_after u v; voted = voted-after u v; r = round_after u v; place = place_after u v }
 
 -- the word in a place
 abbrev pub content : Place Knowledge → Knowledge

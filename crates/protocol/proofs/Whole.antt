@@ -1,5 +1,6 @@
 -- The promise, of every list of calls. Assumes nothing.
-use Rattle.std.proofs.Common.{◌≡◌, ℕ, suc, ◌+◌, ◌<◌, ◌≤◌, Bool, true, false, not, ◌&&◌, ◌≢◌, ◌⊎◌, List, [], ◌∷◌, ◌++◌, None, sym, refl, ap, ◌∙◌, subst, inl, inr, arith}
+use Rattle.std.proofs.Common.{◌≡◌, ℕ, suc, ◌+◌, ◌<◌, ◌≤◌, true, not, ◌&&◌, ◌≢◌, ◌⊎◌, List, [], ◌∷◌, ◌++◌, None, sym, refl, ap, ◌∙◌, subst, inl, inr, arith}
+use Rattle.std.proofs.lemmas.Bool.{not-true, not-false}
 use Rattle.words.specs.Offices.{member}
 use Rattle.protocol.specs.declared.call.Call.{Call}
 use Rattle.protocol.specs.History.{count}
@@ -18,9 +19,7 @@ use Rattle.protocol.proofs.Runs.{Fine}
 use Rattle.protocol.proofs.Decided as decided
 use Rattle.protocol.proofs.Deadlock as deadlock
 use Rattle.protocol.proofs.History as history
-
-clash : {b : Bool} → b ≡ true → b ≡ false → ⊥
-clash p q = grind arith
+use Rattle.protocol.specs.Records.{terminating}
 
 module _ (m : Model) (o : Opening m) where
   open_fine : Fine m
@@ -46,7 +45,7 @@ module _ (m : Model) (o : Opening m) where
     stood : (i : ℕ) → i < m.n → (office (run m h) i).standing ≡ not (dropped m h i)
     stood i li = history.standing_shown m open_fine h i ∙ ap (λ b. b && not (dropped m h i)) (runs.standing_at m o i li)
 
-    phase : (i : ℕ) → (office (run m h) i).terminating ≡ entered m h i
+    phase : (i : ℕ) → terminating (office (run m h) i) ≡ entered m h i
     phase i = history.in_termination m open_fine h i (runs.in_voting m o i)
 
     in_run : (i : ℕ) → i < m.n → i < (run m h).n
@@ -65,25 +64,19 @@ module _ (m : Model) (o : Opening m) where
     some_no i li e =
         let (w, g) = fine in
         let (j, lj, x) = decided.abort_no (run m h) w g i (in_run i li) (shown i ∙ e) in
-        (j, out_run j lj, elim x [ inl y ↦ inl (no_said j y) | inr y ↦ inr (not_not (dropped m h j) (sym (stood j (out_run j lj)) ∙ y)) ])
-      where
-        not_not : (b : Bool) → not b ≡ false → b ≡ true
-        not_not b e = grind arith
+        (j, out_run j lj, elim x [ inl y ↦ inl (no_said j y) | inr y ↦ inr (not-false _ (sym (stood j (out_run j lj)) ∙ y)) ])
 
     limit : (i : ℕ) → DecidesInTermination m h i → suc (closings m h i) ≤ drop_outs m h + 1
     limit i d =
         let (w, g) = fine in
         let li = (asked.close_asked (run m h) i d.closing).0 in
         let p = phase i ∙ d.in_termination in
-        let (_, _, lim, _) = (g.rec i li).still_open p (asked.close_ending (run m h) i p d.closing) in
+        let (lim, _) = (g.rec i li).still_open p (asked.close_ending (run m h) i p d.closing) in
         let r = history.rounds_shown m open_fine h i (runs.in_voting m o i) p in
         let e = same-n in
-        let c = count_le m.n (net (run m h) w).dropped (dropped m h) (λ l ll x. not_not (office (run m h) l).standing (dropped m h l) (stood l ll) x) in
+        let c = count_le m.n (net (run m h) w).dropped (dropped m h) (λ l ll x. not-false _ (sym (stood l ll) ∙ not-true _ x)) in
         let c' : count (run m h).n (net (run m h) w).dropped ≡ count m.n (net (run m h) w).dropped = ap (λ (n : ℕ). count n (net (run m h) w).dropped) e in
         omega arith
-      where
-        not_not : (a b : Bool) → a ≡ not b → not a ≡ true → b ≡ true
-        not_not a b e f = grind arith
 
   prefix : (past later h : List Call) → h ≡ past ++ later → (i : ℕ) → holds m past i ≢ None → holds m h i ≡ holds m past i
   prefix past later h e i nd =
@@ -103,7 +96,7 @@ module _ (m : Model) (o : Opening m) where
     phase_shown = λ i li. phase h i;
     decision_shown = λ i li. shown h i;
     round_shown = λ i past later e d. ap (λ (l : List Call). (office (run m l) i).deciding) e ∙ history.round_shown m open_fine past later i (runs.in_voting m o i) d;
-    round_none = λ i li none. history.round_none m open_fine h i (runs.like m o (λ o. o.deciding) 0 refl refl i) (λ past later e ok p nd. none past later e (record { closing = ok; in_termination = sym (phase past i) ∙ p; ruled = nd }));
+    round_none = λ i li none. history.round_none m open_fine h i (runs.like m o (λ o. o.deciding) None refl refl i) (λ past later e ok p nd. none past later e (record { closing = ok; in_termination = sym (phase past i) ∙ p; ruled = nd }));
   }
 
 pub kept : Kept

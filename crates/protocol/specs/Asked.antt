@@ -16,7 +16,7 @@ use Rattle.protocol.specs.declared.office.Office.{Office}
 use Rattle.protocol.specs.Faults.{call_number}
 use Rattle.protocol.specs.Hearing.{heard, spoke}
 use Rattle.protocol.specs.Model.{Mail, Model, office, plan_round, voting_rounds}
-use Rattle.protocol.specs.Records.{undecided}
+use Rattle.protocol.specs.Records.{terminating, word, undecided}
 
 -- whether a word waits from s for r, within the reach of the post
 unfoldable pub waiting_from : {W : Type 0} → Mail W → ℕ → ℕ → Bool
@@ -49,11 +49,11 @@ may_go_on m o = o.voted && nat_le o.round (voting_rounds m.h o.decision)
 
 -- whether an office's round is open: in voting, voted, with a round left; or undecided in the termination
 abbrev pub round_open : Model → Office → Bool
-round_open m o = cond o.terminating (undecided o.decision) (may_go_on m o)
+round_open m o = cond (terminating o) (undecided o.decision) (may_go_on m o)
 
 -- whether the plan names the pair in an office's voting round, or the office is in the termination
 abbrev pub may_pair : Model → Office → ℕ → ℕ → Bool
-may_pair m o s l = o.terminating || m.names (plan_round m.h o.round) s l
+may_pair m o s l = terminating o || m.names (plan_round m.h o.round) s l
 
 -- whether office i must deal with j in the termination: j is another office, of whose drop-out i was not told
 abbrev pub counts_on : Model → ℕ → ℕ → Bool
@@ -61,19 +61,19 @@ counts_on m i j = not (i == j) && not (member (office m i).told j)
 
 -- whether office i must speak to j in its round: in voting where the plan names them, i first
 abbrev pub must_speak : Model → ℕ → ℕ → Bool
-must_speak m i j = cond (office m i).terminating (counts_on m i j) (m.names (plan_round m.h (office m i).round) i j)
+must_speak m i j = cond (terminating (office m i)) (counts_on m i j) (m.names (plan_round m.h (office m i).round) i j)
 
 -- whether office i must hear j in its round: in voting where the plan names them, j first
 abbrev pub must_hear : Model → ℕ → ℕ → Bool
-must_hear m i j = cond (office m i).terminating (counts_on m i j) (m.names (plan_round m.h (office m i).round) j i)
+must_hear m i j = cond (terminating (office m i)) (counts_on m i j) (m.names (plan_round m.h (office m i).round) j i)
 
 -- whether office i has spoken to j in its round
 abbrev pub spoken_to : Model → ℕ → ℕ → Bool
-spoken_to m i j = cond (office m i).terminating (not (vacant (m.termination.places i j (office m i).round))) (not (vacant (m.voting.places i j (office m i).round)))
+spoken_to m i j = cond (terminating (office m i)) (not (vacant (m.termination.places i j (office m i).round))) (not (vacant (m.voting.places i j (office m i).round)))
 
 -- whether office i has heard j in its round
 abbrev pub heard_from : Model → ℕ → ℕ → Bool
-heard_from m i j = cond (office m i).terminating (spoke (heard (m.termination.places j i (office m i).round))) (spoke (heard (m.voting.places j i (office m i).round)))
+heard_from m i j = cond (terminating (office m i)) (spoke (heard (m.termination.places j i (office m i).round))) (spoke (heard (m.voting.places j i (office m i).round)))
 
 -- the questions of a call, in their order, each with its number
 abbrev pub questions : Model → Call → List (ℕ × Bool)
@@ -81,23 +81,23 @@ questions m (Vote i v) = let o = office m i in
     (call_number NoSuchOffice, nat_lt i m.n)
     ∷ (call_number DroppedOut, o.standing)
     ∷ (call_number NoSuchVote, nat_lt v 2)
-    ∷ (call_number NotVoting, not o.terminating)
+    ∷ (call_number NotVoting, not (terminating o))
     ∷ (call_number AlreadyVoted, not o.voted)
     ∷ []
 questions m (Speak i j) = let o = office m i in
     (call_number NoSuchOffice, nat_lt i m.n && nat_lt j m.n)
     ∷ (call_number SameOffice, not (i == j))
     ∷ (call_number DroppedOut, o.standing)
-    ∷ (call_number MayNotSpeak, o.terminating || may_go_on m o)
+    ∷ (call_number MayNotSpeak, terminating o || may_go_on m o)
     ∷ (call_number NotNamed, may_pair m o i j)
-    ∷ cond o.terminating (posting same_term m.termination i j o.round o.word) (posting same_knowledge m.voting i j o.round o.knowledge)
+    ∷ cond (terminating o) (posting same_term m.termination i j o.round (word o)) (posting same_knowledge m.voting i j o.round o.knowledge)
 questions m (Hear i j) = let o = office m i in
     (call_number NoSuchOffice, nat_lt i m.n && nat_lt j m.n)
     ∷ (call_number SameOffice, not (i == j))
     ∷ (call_number DroppedOut, o.standing)
     ∷ (call_number RoundNotOpen, round_open m o)
     ∷ (call_number NotNamed, may_pair m o j i)
-    ∷ cond o.terminating (taking m.termination j i o.round) (taking m.voting j i o.round)
+    ∷ cond (terminating o) (taking m.termination j i o.round) (taking m.voting j i o.round)
 questions m (Close i) = let o = office m i in
     (call_number NoSuchOffice, nat_lt i m.n)
     ∷ (call_number DroppedOut, o.standing)
@@ -120,7 +120,7 @@ questions m (Notice i j) =
 questions m (Join i) =
     (call_number NoSuchOffice, nat_lt i m.n)
     ∷ (call_number DroppedOut, (office m i).standing)
-    ∷ (call_number NotVoting, not (office m i).terminating)
+    ∷ (call_number NotVoting, not (terminating (office m i)))
     ∷ (call_number NoWordWaits, some m.n (λ j. waiting_from m.termination j i))
     ∷ []
 

@@ -3,63 +3,39 @@ use Rattle.std.specs.Prelude.{◌≡◌, ℕ, zero, suc, ◌+◌, ◌-◌, Bool,
 use Rattle.words.specs.declared.knowledge.Decision.{Decision}
 use Rattle.words.specs.Classes.{decision_of}
 use Rattle.protocol.specs.declared.call.Call.{Call}
-use Rattle.protocol.specs.declared.call.Call.TheVariants.{Vote, Speak, Hear, Close, DropOut, Notice, Join}
+use Rattle.protocol.specs.declared.call.Call.TheVariants.{Vote, Close, DropOut, Notice, Join}
 use Rattle.protocol.specs.Asked.{verdict}
 use Rattle.protocol.specs.Letters.{to_abort}
 use Rattle.protocol.specs.Model.{Model, office}
-use Rattle.protocol.specs.Records.{latest}
+use Rattle.protocol.specs.Records.{prior, terminating, word, latest}
 use Rattle.protocol.specs.Rules.{learns, class, ruling}
 use Rattle.protocol.specs.Steps.{heard_in, step, run}
 
 -- the call is a drop-out of office i
 abbrev pub drops_out : ℕ → Call → Bool
-drops_out i (Vote a x) = false
-drops_out i (Speak a b) = false
-drops_out i (Hear a b) = false
-drops_out i (Close a) = false
 drops_out i (DropOut a) = a == i
-drops_out i (Notice a b) = false
-drops_out i (Join a) = false
+drops_out i _ = false
 
 -- the call is a vote v of office i
 abbrev pub votes : ℕ → ℕ → Call → Bool
 votes i v (Vote a x) = a == i && x == v
-votes i v (Speak a b) = false
-votes i v (Hear a b) = false
-votes i v (Close a) = false
-votes i v (DropOut a) = false
-votes i v (Notice a b) = false
-votes i v (Join a) = false
+votes i v _ = false
 
 -- the call is a closing of office i
 abbrev pub closes : ℕ → Call → Bool
-closes i (Vote a x) = false
-closes i (Speak a b) = false
-closes i (Hear a b) = false
 closes i (Close a) = a == i
-closes i (DropOut a) = false
-closes i (Notice a b) = false
-closes i (Join a) = false
+closes i _ = false
 
 -- the call is a notice to office i, or its join: after it, it is in the termination
 abbrev pub enters : ℕ → Call → Bool
-enters i (Vote a x) = false
-enters i (Speak a b) = false
-enters i (Hear a b) = false
-enters i (Close a) = false
-enters i (DropOut a) = false
 enters i (Notice a b) = a == i
 enters i (Join a) = a == i
+enters i _ = false
 
 -- the call is a drop-out
 abbrev pub is_drop_out : Call → Bool
-is_drop_out (Vote a x) = false
-is_drop_out (Speak a b) = false
-is_drop_out (Hear a b) = false
-is_drop_out (Close a) = false
 is_drop_out (DropOut a) = true
-is_drop_out (Notice a b) = false
-is_drop_out (Join a) = false
+is_drop_out _ = false
 
 -- the call is accepted
 abbrev pub accepted : Model → Call → Bool
@@ -103,8 +79,8 @@ closings m h i = closings_since m false h i
 -- the decision that a closing of office i gives: in the termination by the rules, in voting by the class that it leaves
 abbrev pub closing_gives : Model → ℕ → Option Decision
 closing_gives m i = let o = office m i in
-    cond o.terminating
-    (ruling m.n o.round o.word (heard_in m.termination i o.round) o.prior (heard_in m.termination i (o.round - 1)))
+    cond (terminating o)
+    (ruling m.n o.round (word o) (heard_in m.termination i o.round) (prior o) (heard_in m.termination i (o.round - 1)))
     (decision_of (class m.n (learns m.n i o.knowledge (heard_in m.voting i o.round))))
 
 -- the decision that a call gives office i: a vote 0 gives abort, a closing what it gives, and no other call gives one

@@ -9,7 +9,6 @@ use Rattle.words.specs.Offices.{none}
 use Rattle.plans.specs.Covering.{Talk}
 use Rattle.posts.specs.Places.{Places}
 use Rattle.protocol.specs.declared.office.Office.{Office}
-use Rattle.protocol.specs.Letters.{N}
 
 -- what a post means: its reach, and what it holds by sender, receiver and round
 pub record Mail (W : Type 0) : Type 0 where
@@ -27,7 +26,7 @@ pub record Model : Type 0 where
 
 -- the record that stands for an office that is not in the table
 abbrev pub nobody : Office
-nobody = record { standing = false; terminating = false; voted = false; round = 0; knowledge = knows_nothing; told = none; word = N; prior = N; decision = None; deciding = 0 }
+nobody = record { standing = false; termination = None; voted = false; round = 0; knowledge = knows_nothing; told = none; decision = None; deciding = None }
 
 -- the record of office i
 abbrev pub office : Model → ℕ → Office

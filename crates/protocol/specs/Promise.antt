@@ -1,5 +1,5 @@
 -- What a release promises over every list of calls. Assumes nothing.
-use Rattle.std.specs.Prelude.{◌≡◌, ℕ, suc, ◌+◌, ◌<◌, ◌≤◌, true, false, not, ◌≢◌, ◌⊎◌, List, [], ◌∷◌, ◌++◌, None}
+use Rattle.std.specs.Prelude.{◌≡◌, ℕ, suc, ◌+◌, ◌<◌, ◌≤◌, true, false, not, ◌≢◌, ◌⊎◌, List, [], ◌∷◌, ◌++◌, Some, None}
 use Rattle.protocol.specs.declared.call.Call.{Call}
 use Rattle.protocol.specs.declared.call.Call.TheVariants.{Close}
 use Rattle.protocol.specs.Asked.{verdict}
@@ -8,6 +8,7 @@ use Rattle.protocol.specs.Letters.{to_abort, to_commit}
 use Rattle.protocol.specs.Model.{Model, office}
 use Rattle.protocol.specs.Openings.{Opening}
 use Rattle.protocol.specs.Steps.{run}
+use Rattle.protocol.specs.Records.{terminating}
 
 -- m is the release as it was opened, h the list of calls since, with any numbers, and s the release as it is now
 pub record Promise (m : Model) (h : List Call) (s : Model) : Type 0 where
@@ -26,13 +27,13 @@ pub record Promise (m : Model) (h : List Call) (s : Model) : Type 0 where
   -- the records show who stands
   pub standing_shown : (i : ℕ) → i < m.n → (office s i).standing ≡ not (dropped m h i)
   -- the records show who entered the termination
-  pub phase_shown : (i : ℕ) → i < m.n → (office s i).terminating ≡ entered m h i
+  pub phase_shown : (i : ℕ) → i < m.n → terminating (office s i) ≡ entered m h i
   -- the records show who holds what
   pub decision_shown : (i : ℕ) → i < m.n → (office s i).decision ≡ holds m h i
   -- where an office decided in the termination, its record shows the round: the number of its closings there, that one included
-  pub round_shown : (i : ℕ) (past later : List Call) → h ≡ past ++ (Close i ∷ later) → DecidesInTermination m past i → (office s i).deciding ≡ suc (closings m past i)
-  -- where it did not, its record shows 0
-  pub round_none : (i : ℕ) → i < m.n → ((past later : List Call) → h ≡ past ++ (Close i ∷ later) → DecidesInTermination m past i → ⊥) → (office s i).deciding ≡ 0
+  pub round_shown : (i : ℕ) (past later : List Call) → h ≡ past ++ (Close i ∷ later) → DecidesInTermination m past i → (office s i).deciding ≡ Some (suc (closings m past i))
+  -- where it did not, its record shows none
+  pub round_none : (i : ℕ) → i < m.n → ((past later : List Call) → h ≡ past ++ (Close i ∷ later) → DecidesInTermination m past i → ⊥) → (office s i).deciding ≡ None
 
 -- of every opening and every list of calls
 abbrev pub Kept : Type 0

@@ -18,7 +18,7 @@ use Rattle.protocol.specs.Letters.{N, C, A, to_abort, to_commit}
 
 -- a knowledge to which office i adds itself in ready, if yes holds all n
 unfoldable pub readied : ℕ → ℕ → Knowledge → Knowledge
-readied n i k = cond (full n k.yes) (record { yes = k.yes; no = k.no; ready = added k.ready i }) k
+readied n i k = cond (full n k.yes) (record k { ready = added k.ready i }) k
 
 -- what office i knows once it closed a voting round in which it heard q: its own and the heard words joined, and if yes then holds all n, it adds itself to ready
 abbrev pub learns : ℕ → ℕ → Knowledge → Heard Knowledge → Knowledge

@@ -11,7 +11,7 @@ use Rattle.protocol.specs.declared.office.Office.{Office}
 use Rattle.protocol.specs.Asked.{verdict}
 use Rattle.protocol.specs.Hearing.{Heard, heard}
 use Rattle.protocol.specs.Model.{Mail, Model, office}
-use Rattle.protocol.specs.Records.{voted_yes, voted_no, dropped_out, told_of, entered, closed_voting, closed_termination}
+use Rattle.protocol.specs.Records.{terminating, word, voted_yes, voted_no, dropped_out, told_of, entered, closed_voting, closed_termination}
 
 -- a word that waited is taken
 abbrev pub taken : {W : Type 0} → Place W → Place W
@@ -21,7 +21,7 @@ taken (Taken w) = Taken w
 
 -- a post with x in one place, and else as before
 unfoldable pub filled : {W : Type 0} → Mail W → ℕ → ℕ → ℕ → Place W → Mail W
-filled p s r k x = record { reach = p.reach; places = put p.places s r k x }
+filled p s r k x = record p { places = put p.places s r k x }
 
 -- what office i has heard in round k
 abbrev pub heard_in : {W : Type 0} → Mail W → ℕ → ℕ → Heard W
@@ -30,32 +30,32 @@ heard_in p i k l = heard (p.places l i k)
 -- office i's record once it closed its round
 abbrev pub closed : Model → ℕ → Office
 closed m i = let o = office m i in
-    cond o.terminating
+    cond (terminating o)
     (closed_termination m.n o (heard_in m.termination i o.round) (heard_in m.termination i (o.round - 1)))
     (closed_voting m.n i o (heard_in m.voting i o.round))
 
 -- a release with office i's record changed, and no other
 abbrev pub with_office : Model → ℕ → Office → Model
-with_office m i o = record { n = m.n; h = m.h; names = m.names; offices = slice_set m.offices i o; voting = m.voting; termination = m.termination }
+with_office m i o = record m { offices = slice_set m.offices i o }
 
 -- a release with its voting post changed
 abbrev pub with_voting : Model → Mail Knowledge → Model
-with_voting m p = record { n = m.n; h = m.h; names = m.names; offices = m.offices; voting = p; termination = m.termination }
+with_voting m p = record m { voting = p }
 
 -- a release with its termination post changed
 abbrev pub with_termination : Model → Mail TermWord → Model
-with_termination m p = record { n = m.n; h = m.h; names = m.names; offices = m.offices; voting = m.voting; termination = p }
+with_termination m p = record m { termination = p }
 
 -- what an accepted call leaves
 abbrev pub after : Model → Call → Model
 after m (Vote i v) = with_office m i (cond (v == 1) (voted_yes (office m i) i) (voted_no (office m i) i))
 after m (Speak i j) = let o = office m i in
-    cond o.terminating (with_termination m (filled m.termination i j o.round (Waiting o.word))) (with_voting m (filled m.voting i j o.round (Waiting o.knowledge)))
+    cond (terminating o) (with_termination m (filled m.termination i j o.round (Waiting (word o)))) (with_voting m (filled m.voting i j o.round (Waiting o.knowledge)))
 after m (Hear i j) = let o = office m i in
-    cond o.terminating (with_termination m (filled m.termination j i o.round (taken (m.termination.places j i o.round)))) (with_voting m (filled m.voting j i o.round (taken (m.voting.places j i o.round))))
+    cond (terminating o) (with_termination m (filled m.termination j i o.round (taken (m.termination.places j i o.round)))) (with_voting m (filled m.voting j i o.round (taken (m.voting.places j i o.round))))
 after m (Close i) = with_office m i (closed m i)
 after m (DropOut i) = with_office m i (dropped_out (office m i))
-after m (Notice i j) = let o = told_of (office m i) j in with_office m i (cond o.terminating o (entered m.n o))
+after m (Notice i j) = let o = told_of (office m i) j in with_office m i (cond (terminating o) o (entered m.n o))
 after m (Join i) = with_office m i (entered m.n (office m i))
 
 -- a call: accepted, it leaves what it leaves; refused, it changes nothing

@@ -2,9 +2,10 @@
 
 // What an office does, or what is told to it. The numbers may be any: a call asks first whether they
 // are offices of the release.
-#[derive(Clone, Copy)]
+#[derive(Clone, Copy, Debug, PartialEq, Eq)]
 pub enum Call {
-    // votes yes (1) or no (0)
+    // votes yes (1) or no (0); a number, not a truth value: by a rule of the project a call may carry
+    // any number, and is asked whether it is 0 or 1
     Vote { office: u8, vote: u8 },
     // posts its word of its phase and round to the other (in the field's terms, sends a message)
     Speak { office: u8, other: u8 },

@@ -9,5 +9,5 @@ mod promise;
 
 pub use call::Call;
 pub use fault::CallFault;
-pub use office::Office;
+pub use office::{Office, Spoken};
 pub use promise::promise_stands;
