@@ -1,7 +1,8 @@
 -- Laws of tests and counts below a number, and of the sums of words. Assumes nothing.
 use Rattle.std.proofs.Common.{◌≡◌, ℕ, zero, suc, ◌<◌, ◌≤◌, Bool, true, false, ◌&&◌, ◌||◌, eqb, ltb, ◌≢◌, ◌⊎◌, Some, None, Option, List, [], ◌∷◌, ◌++◌, sym, refl, ap, ◌∙◌, inl, inr, arith}
 use lib.Bits.{or_comm, or_self}
-use Rattle.std.proofs.lemmas.Bool.{both_ways, cases_eq, cases_Bool, cond_both, or_cases, or_left, or_right}
+use Rattle.std.proofs.lemmas.Bool.{both_ways, cases_eq, cases_Bool, cond_both, or_cases}
+use Rattle.std.proofs.Math.Bool as bools
 use Rattle.words.specs.declared.knowledge.Knowledge.{Knowledge}
 use Rattle.words.specs.declared.offices.Offices.{Offices}
 use Rattle.words.specs.declared.term.TermWord.{TermWord}
@@ -10,7 +11,7 @@ use Rattle.words.specs.Knowledge.{knows_nothing, pooled}
 use Rattle.words.specs.Offices.{member, none, union, full}
 use Rattle.words.specs.Sum.{sum_of}
 use Rattle.words.specs.Terms.{higher}
-use Rattle.words.proofs.Below.{every_decides, some_decides}
+use Rattle.words.proofs.Below.{every_decides, some_decides, some_suc}
 use Rattle.words.specs.MasksLemmas.{or_assoc, bit-bit_or, bit-none, some-bit}
 use Rattle.words.proofs.Members.{member-none, member-added}
 use Rattle.protocol.specs.Hearing.{Heard, listed, words, total}
@@ -43,15 +44,6 @@ some_at n p = (some_decides p n).0
 
 pub some-from : (n : ℕ) (p : ℕ → Bool) (l : ℕ) → l < n → p l ≡ true → some n p ≡ true
 some-from n p l lt e = (some_decides p n).1 (l, lt, e)
-
--- one number more
-some_suc : (n : ℕ) (p : ℕ → Bool) → some (suc n) p ≡ (some n p || p n)
-some_suc n p = same_truth _ _
-    (λ e. let (l, lt, x) = some_at (suc n) p e in elim (cases_eq l n) [ inl q ↦ or_right _ _ (rw q at x) | inr ne ↦ or_left _ _ (some-from n p l (omega arith) x) ])
-    (λ e. elim (or_cases (some n p) (p n) e) [ inl y ↦ let (l, lt, x) = some_at n p y in some-from (suc n) p l (omega arith) x | inr x ↦ some-from (suc n) p n (omega arith) x ])
-  where
-    same_truth : (a b : Bool) → (a ≡ true → b ≡ true) → (b ≡ true → a ≡ true) → a ≡ b
-    same_truth a b x y = grind arith
 
 pub count_le : (n : ℕ) (p q : ℕ → Bool) → ((l : ℕ) → l < n → p l ≡ true → q l ≡ true) → count n p ≤ count n q
 unfolding count
@@ -189,7 +181,7 @@ unfolding words some
 sum_set f z u zero q j = ap (λ (s : Offices). member s j) z ∙ member-none j
 sum_set f z u (suc n) q j =
     ap (λ k. member (f k) j) (next_knowledge n q) ∙ ap (λ (s : Offices). member s j) (u (sum_knowledge n q) (told_by q n)) ∙ member_union (f (sum_knowledge n q)) (f (told_by q n)) j
-    ∙ ap (λ b. b || member (f (told_by q n)) j) (sum_set f z u n q j) ∙ sym (some_suc n (λ l. member (f (told_by q l)) j))
+    ∙ ap (λ b. b || member (f (told_by q n)) j) (sum_set f z u n q j) ∙ bools.or_comm (some n (λ l. member (f (told_by q l)) j)) _ ∙ sym (some_suc (λ l. member (f (told_by q l)) j) n)
 
 module _ (n i : ℕ) (own : Knowledge) (q : Heard Knowledge) (j : ℕ) where
   -- one of the two sets, f, that no readying changes

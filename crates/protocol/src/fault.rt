@@ -6,7 +6,7 @@ use posts::PostFault;
 use refusals::Refusal;
 
 // The question of a call that got a no, by its case.
-#[derive(Clone, Copy, PartialEq, Eq)]
+#[derive(Clone, Copy, Debug, PartialEq, Eq)]
 pub enum CallFault {
     // an office's number is not below the number of offices
     NoSuchOffice,

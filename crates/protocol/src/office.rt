@@ -2,7 +2,7 @@
 use words::{Decision, Knowledge, Offices, TermWord};
 
 // What an office in the termination says (in the field's terms, the state messages that it sends).
-#[derive(Clone, Copy, PartialEq, Eq)]
+#[derive(Clone, Copy, Debug, PartialEq, Eq)]
 pub struct Spoken {
     // its word of this termination round
     pub word: TermWord,
@@ -12,7 +12,7 @@ pub struct Spoken {
 
 // What a release keeps of one office (in the field's terms, the local state of a site). It keeps no
 // copy of what the office heard: words that were taken stay in the posts.
-#[derive(Clone, Copy, PartialEq, Eq)]
+#[derive(Clone, Copy, Debug, PartialEq, Eq)]
 pub struct Office {
     // it has not dropped out
     pub standing: bool,
