@@ -64,7 +64,7 @@ pub cube_laws : PlanLaws cube_rounds cube_names
 cube_laws = kept cube_rounds cube_names (λ n. grind (arith, nat_tests)) (λ n h. grind (arith, nat_tests)) (λ n r s l e. grind (arith, nat_tests)) cube_covered
 
 -- a plan that serves no number of offices
-none_laws : PlanLaws (λ n. 0) (λ n r s l. false)
+pub none_laws : PlanLaws (λ n. 0) (λ n r s l. false)
 none_laws = record {
   few = λ n. omega arith;
   proper = λ n r s l e. absurd (false≢true e);
