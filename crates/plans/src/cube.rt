@@ -22,12 +22,10 @@ impl Plan for Cube {
         ensures value { result ≡ cube_rounds n }
         ensures log { Logarithm n result }
     {
-        match n {
-            2 => 1,
-            4 => 2,
-            8 => 3,
-            16 => 4,
-            _ => 0,
+        if n.is_power_of_two() && n <= 16 {
+            n.ilog2() as u8
+        } else {
+            0
         }
     }
 
