@@ -1,5 +1,5 @@
 // Plans: their rounds, whom they name, and what each office knows of after the rounds.
-use plans::{Cube, Mesh, Plan, Star, Turn, plan_numbered};
+use plans::{Cube, Mesh, NumberedPlan, Plan, Star, Turn, UnknownPlan, plan_numbered};
 use std::process::Abort;
 use words::Offices;
 
@@ -71,6 +71,15 @@ fn another_number_serves_nobody(rt: HostRuntime) {
     has_rounds(&rt, &plan_numbered(255), [0; 11]);
     silent(&rt, &plan_numbered(3), 4);
     silent(&rt, &plan_numbered(255), 16);
+}
+
+#[test]
+fn three_plans_have_numbers(rt: HostRuntime) {
+    assert_eq!(rt; NumberedPlan::try_from(0), Ok(NumberedPlan::Mesh));
+    assert_eq!(rt; NumberedPlan::try_from(1), Ok(NumberedPlan::Star));
+    assert_eq!(rt; NumberedPlan::try_from(2), Ok(NumberedPlan::Cube));
+    assert_eq!(rt; NumberedPlan::try_from(3), Err(UnknownPlan(3)));
+    assert_eq!(rt; NumberedPlan::try_from(255), Err(UnknownPlan(255)));
 }
 
 #[test]

@@ -12,6 +12,7 @@ use Rattle.plans.specs.Cube.{cube_rounds, Logarithm}
 agrees : ℕ → ℕ → Bool
 agrees n h = not (is_power_of_two n && (nat_le (2 ^ h) n && nat_lt n (2 * 2 ^ h))) || h == cube_rounds n
 
+-- so it is for each number of offices up to 16
 all_agree : every 17 (λ n. every 8 (agrees n)) ≡ true
 unfolding agrees every ones
 all_agree = refl

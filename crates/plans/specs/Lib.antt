@@ -10,5 +10,4 @@ pub mod Serving
 pub mod Star
 pub mod LawsLemmas
 pub mod Masks
-pub mod OptionalLemmas
 pub mod PairsLemmas

@@ -37,6 +37,7 @@ impl TryFrom<u8> for NumberedPlan {
     }
 }
 
+// Two matches: a function that hands out the plan would need a dyn, and one that takes a visitor more lines.
 impl Plan for NumberedPlan {
     ghost rounds = { λ p. numbered_rounds (number_of p) };
 

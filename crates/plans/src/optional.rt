@@ -1,6 +1,6 @@
 // Plans that may be missing.
 ghost use Rattle.plans.specs.Optional.{optional_rounds, optional_names};
-ghost use Rattle.plans.specs.OptionalLemmas.{optional_laws};
+ghost use Rattle.plans.specs.LawsLemmas.{optional_laws};
 
 use crate::plan::Plan;
 use crate::turn::Turn;

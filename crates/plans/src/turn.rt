@@ -12,8 +12,8 @@ pub struct Turn {
 
 impl Turn {
     // Whether the round is one of h rounds, and the speaker and the listener are two of n offices.
-    pub(crate) fn is_proper(&self, n: u8, h: u8) -> bool
-        ensures { result ≡ proper n h self.now.round self.now.speaker self.now.listener }
+    pub(crate) fn is_proper(self, n: u8, h: u8) -> bool
+        ensures { result ≡ proper n h self.round self.speaker self.listener }
     {
         (1..=h).contains(&self.round)
             && self.speaker < n
