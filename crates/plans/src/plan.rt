@@ -18,7 +18,7 @@ pub trait Plan {
     fn rounds(&self, n: u8) -> u8
         ensures { result ≡ rounds self.now n };
 
-    // Whether, among n offices, the speaker speaks to the listener in this round.
+    // Whether, among n offices, the turn's speaker speaks to its listener in its round.
     fn names(&self, n: u8, turn: Turn) -> bool
         ensures { result ≡ names self.now n turn.round turn.speaker turn.listener };
 
