@@ -1,5 +1,5 @@
 // Plans: their rounds, whom they name, and what each office knows of after the rounds.
-use plans::{Cube, Mesh, Plan, PlanNumber, Star, serves};
+use plans::{Cube, Mesh, NumberedPlan, Plan, Star, Turn, UnknownPlan, plan_numbered};
 use std::process::Abort;
 use words::Offices;
 
@@ -8,50 +8,42 @@ const SIZES: [u8; 11] = [0, 1, 2, 3, 4, 6, 8, 15, 16, 17, 255];
 
 // The plan has these rounds for these numbers of offices.
 fn has_rounds<P: Plan>(rt: &impl Abort, plan: &P, rounds: [u8; 11]) {
-    for k in 0..11 {
-        assert!(rt; plan.rounds(SIZES[k]) == rounds[k]);
-        assert!(rt; serves(plan, SIZES[k]) == (rounds[k] > 0));
+    for (n, rounds) in SIZES.into_iter().zip(rounds) {
+        assert!(rt; plan.rounds(n) == rounds);
+        assert!(rt; plan.serves(n) == (rounds > 0));
     }
 }
 
 #[test]
 fn mesh_has_one_round(rt: HostRuntime) {
     has_rounds(&rt, &Mesh, [0, 0, 1, 1, 1, 1, 1, 1, 1, 0, 0]);
-    has_rounds(
-        &rt,
-        &PlanNumber { number: 0 },
-        [0, 0, 1, 1, 1, 1, 1, 1, 1, 0, 0],
-    );
+    has_rounds(&rt, &plan_numbered(0), [0, 0, 1, 1, 1, 1, 1, 1, 1, 0, 0]);
 }
 
 #[test]
 fn star_has_two_rounds(rt: HostRuntime) {
     has_rounds(&rt, &Star, [0, 0, 2, 2, 2, 2, 2, 2, 2, 0, 0]);
-    has_rounds(
-        &rt,
-        &PlanNumber { number: 1 },
-        [0, 0, 2, 2, 2, 2, 2, 2, 2, 0, 0],
-    );
+    has_rounds(&rt, &plan_numbered(1), [0, 0, 2, 2, 2, 2, 2, 2, 2, 0, 0]);
 }
 
 #[test]
 fn cube_serves_four_numbers_of_offices(rt: HostRuntime) {
     has_rounds(&rt, &Cube, [0, 0, 1, 0, 2, 0, 3, 0, 4, 0, 0]);
-    has_rounds(
-        &rt,
-        &PlanNumber { number: 2 },
-        [0, 0, 1, 0, 2, 0, 3, 0, 4, 0, 0],
-    );
+    has_rounds(&rt, &plan_numbered(2), [0, 0, 1, 0, 2, 0, 3, 0, 4, 0, 0]);
 }
 
 // Among n offices, in this round, these speak to the listener, and nobody else does.
 fn hears<P: Plan>(rt: &impl Abort, plan: &P, n: u8, round: u8, listener: u8, speakers: &[u8]) {
-    let mut expected = Offices::none();
-    for speaker in speakers {
-        expected = expected.with(*speaker);
-    }
+    let expected = speakers
+        .iter()
+        .fold(Offices::none(), |offices, speaker| offices.with(*speaker));
     for speaker in 0..=255 {
-        assert!(rt; plan.names(n, round, speaker, listener) == expected.contains(speaker));
+        let turn = Turn {
+            round,
+            speaker,
+            listener,
+        };
+        assert!(rt; plan.names(n, turn) == expected.contains(speaker));
     }
 }
 
@@ -75,10 +67,19 @@ fn where_a_plan_does_not_serve_nobody_speaks(rt: HostRuntime) {
 
 #[test]
 fn another_number_serves_nobody(rt: HostRuntime) {
-    has_rounds(&rt, &PlanNumber { number: 3 }, [0; 11]);
-    has_rounds(&rt, &PlanNumber { number: 255 }, [0; 11]);
-    silent(&rt, &PlanNumber { number: 3 }, 4);
-    silent(&rt, &PlanNumber { number: 255 }, 16);
+    has_rounds(&rt, &plan_numbered(3), [0; 11]);
+    has_rounds(&rt, &plan_numbered(255), [0; 11]);
+    silent(&rt, &plan_numbered(3), 4);
+    silent(&rt, &plan_numbered(255), 16);
+}
+
+#[test]
+fn three_plans_have_numbers(rt: HostRuntime) {
+    assert_eq!(rt; NumberedPlan::try_from(0), Ok(NumberedPlan::Mesh));
+    assert_eq!(rt; NumberedPlan::try_from(1), Ok(NumberedPlan::Star));
+    assert_eq!(rt; NumberedPlan::try_from(2), Ok(NumberedPlan::Cube));
+    assert_eq!(rt; NumberedPlan::try_from(3), Err(UnknownPlan(3)));
+    assert_eq!(rt; NumberedPlan::try_from(255), Err(UnknownPlan(255)));
 }
 
 #[test]
@@ -149,12 +150,12 @@ fn in_a_larger_cube_too(rt: HostRuntime) {
 
 #[test]
 fn a_number_names_whom_its_plan_names(rt: HostRuntime) {
-    hears(&rt, &PlanNumber { number: 0 }, 4, 1, 1, &[0, 2, 3]);
-    hears(&rt, &PlanNumber { number: 0 }, 4, 2, 1, &[]);
-    hears(&rt, &PlanNumber { number: 1 }, 4, 1, 1, &[]);
-    hears(&rt, &PlanNumber { number: 1 }, 4, 2, 1, &[0]);
-    hears(&rt, &PlanNumber { number: 2 }, 4, 1, 1, &[0, 3]);
-    hears(&rt, &PlanNumber { number: 2 }, 4, 2, 1, &[0, 3]);
+    hears(&rt, &plan_numbered(0), 4, 1, 1, &[0, 2, 3]);
+    hears(&rt, &plan_numbered(0), 4, 2, 1, &[]);
+    hears(&rt, &plan_numbered(1), 4, 1, 1, &[]);
+    hears(&rt, &plan_numbered(1), 4, 2, 1, &[0]);
+    hears(&rt, &plan_numbered(2), 4, 1, 1, &[0, 3]);
+    hears(&rt, &plan_numbered(2), 4, 2, 1, &[0, 3]);
 }
 
 // Whom each of sixteen offices knows of.
@@ -163,30 +164,34 @@ type Known = [Offices; 16];
 // Whom each office knows of before the first round: itself.
 fn at_first() -> Known {
     let mut known = [Offices::none(); 16];
-    for office in 0..16 {
-        known[office as usize] = Offices::none().with(office);
+    for (office, knows) in (0..16).zip(&mut known) {
+        *knows = Offices::none().with(office);
     }
     known
 }
 
 // Whom the listener knows of after the round: also of those whom its speakers knew of before it.
 fn told<P: Plan>(plan: &P, n: u8, round: u8, known: &Known, listener: u8) -> Offices {
-    let mut all = Offices::none();
-    for speaker in 0..16 {
-        if speaker == listener || plan.names(n, round, speaker, listener) {
-            all = all.union(known[speaker as usize]);
-        }
-    }
-    all
+    (0..16)
+        .zip(known)
+        .filter(|(speaker, _)| {
+            let turn = Turn {
+                round,
+                speaker: *speaker,
+                listener,
+            };
+            *speaker == listener || plan.names(n, turn)
+        })
+        .fold(Offices::none(), |all, (_, knows)| all.union(*knows))
 }
 
 // Whom each office knows of after this many rounds among n offices.
 fn known_after<P: Plan>(plan: &P, n: u8, rounds: u8) -> Known {
     let mut known = at_first();
-    for turn in 0..rounds {
+    for round in 1..=rounds {
         let before = known;
-        for listener in 0..16 {
-            known[listener as usize] = told(plan, n, turn + 1, &before, listener);
+        for (listener, knows) in (0..16).zip(&mut known) {
+            *knows = told(plan, n, round, &before, listener);
         }
     }
     known
@@ -195,10 +200,10 @@ fn known_after<P: Plan>(plan: &P, n: u8, rounds: u8) -> Known {
 // Where the plan serves n, up to 16, each of n offices knows of all n after the last round.
 fn covers<P: Plan>(rt: &impl Abort, plan: &P) {
     for n in 0..17 {
-        if serves(plan, n) {
+        if plan.serves(n) {
             let known = known_after(plan, n, plan.rounds(n));
-            for office in 0..16 {
-                assert!(rt; office >= n || known[office as usize].holds_all(n));
+            for knows in known.into_iter().take(n as usize) {
+                assert!(rt; knows.holds_all(n));
             }
         }
     }
@@ -210,7 +215,7 @@ fn after_the_last_round_each_knows_of_all(rt: HostRuntime) {
     covers(&rt, &Star);
     covers(&rt, &Cube);
     for number in 0..=255 {
-        covers(&rt, &PlanNumber { number });
+        covers(&rt, &plan_numbered(number));
     }
 }
 

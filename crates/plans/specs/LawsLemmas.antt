@@ -1,5 +1,5 @@
 -- Each plan keeps its laws: covering is one test, computed at each number of offices. Assumes nothing.
-use Rattle.std.specs.Prelude.{◌≡◌, ℕ, ◌≤◌, Bool, true, false, cond, ◌||◌, ◌==◌, refl}
+use Rattle.std.specs.Prelude.{◌≡◌, ℕ, ◌≤◌, Bool, true, false, cond, ◌||◌, ◌==◌, Option, Some, None, refl}
 use Rattle.std.proofs.Common.{arith}
 use Rattle.std.specs.Int.Count.{ones}
 use Rattle.std.proofs.lemmas.Bool.{false≢true}
@@ -12,6 +12,7 @@ use Rattle.plans.specs.Cube.{cube_rounds, cube_names}
 use Rattle.plans.specs.Laws.{PlanLaws}
 use Rattle.plans.specs.Mesh.{mesh_rounds, mesh_names}
 use Rattle.plans.specs.Numbers.{numbered_rounds, numbered_names}
+use Rattle.plans.specs.Optional.{optional_rounds, optional_names}
 use Rattle.plans.specs.Pairs.{Proper, proper}
 use Rattle.plans.specs.Serving.{Serves}
 use Rattle.plans.specs.Star.{star_rounds, star_names}
@@ -79,3 +80,9 @@ either false x y = y
 -- the plan of each number keeps them
 pub numbered_laws : (k : ℕ) → PlanLaws (numbered_rounds k) (numbered_names k)
 numbered_laws k = either (k == 0) mesh_laws (either (k == 1) star_laws (either (k == 2) cube_laws none_laws))
+
+-- a plan that may be missing keeps them, where each plan of its type does
+pub optional_laws : {P : Type 0} (rounds : P → ℕ → ℕ) (names : P → ℕ → Talk) → ((p : P) → PlanLaws (rounds p) (names p)) → (o : Option P) →
+    PlanLaws (optional_rounds rounds o) (optional_names names o)
+optional_laws rounds names laws None = none_laws
+optional_laws rounds names laws (Some p) = laws p

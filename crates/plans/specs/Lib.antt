@@ -2,7 +2,9 @@ pub mod Covering
 pub mod Cube
 pub mod Laws
 pub mod Mesh
+pub mod Numbering
 pub mod Numbers
+pub mod Optional
 pub mod Pairs
 pub mod Serving
 pub mod Star

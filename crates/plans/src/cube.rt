@@ -3,11 +3,12 @@ ghost use Rattle.std.specs.Prelude.{◌≡◌};
 ghost use Rattle.plans.specs.Cube.{cube_rounds, cube_names, Logarithm};
 ghost use Rattle.plans.specs.LawsLemmas.{cube_laws};
 
-use crate::plan::{Plan, is_proper};
+use crate::plan::Plan;
+use crate::turn::Turn;
 
 // For 2, 4, 8 or 16 offices as many rounds as the base-2 logarithm of their number, in each of which
 // those whose numbers differ in exactly one bit speak to each other (in the field's terms, a hypercube).
-#[derive(Clone, Copy)]
+#[derive(Clone, Copy, Debug, PartialEq, Eq)]
 pub struct Cube;
 
 impl Plan for Cube {
@@ -21,17 +22,14 @@ impl Plan for Cube {
         ensures value { result ≡ cube_rounds n }
         ensures log { Logarithm n result }
     {
-        match n {
-            2 => 1,
-            4 => 2,
-            8 => 3,
-            16 => 4,
-            _ => 0,
+        if n.is_power_of_two() && n <= 16 {
+            n.ilog2() as u8
+        } else {
+            0
         }
     }
 
-    fn names(&self, n: u8, round: u8, speaker: u8, listener: u8) -> bool {
-        is_proper(n, self.rounds(n), round, speaker, listener)
-            && (speaker ^ listener).count_ones() == 1
+    fn names(&self, n: u8, turn: Turn) -> bool {
+        turn.is_proper(n, self.rounds(n)) && (turn.speaker ^ turn.listener).count_ones() == 1
     }
 }

@@ -1,9 +1,10 @@
 // Plans of any kind, their laws, and whom they may name.
-ghost use Rattle.std.specs.Prelude.{◌≡◌, ℕ};
+ghost use Rattle.std.specs.Prelude.{◌≡◌, ℕ, cond};
 ghost use Rattle.plans.specs.Covering.{Talk};
 ghost use Rattle.plans.specs.Laws.{PlanLaws};
-ghost use Rattle.plans.specs.Pairs.{proper};
 ghost use Rattle.plans.specs.Serving.{served, two_to_sixteen};
+
+use crate::turn::Turn;
 
 // A plan (in the field's terms, a communication topology and its schedule): for each number n of offices, the
 // rounds that it has and who speaks to whom in each. After the last round each office knows of all.
@@ -17,31 +18,24 @@ pub trait Plan {
     fn rounds(&self, n: u8) -> u8
         ensures { result ≡ rounds self.now n };
 
-    // Whether, among n offices, the speaker speaks to the listener in this round.
-    fn names(&self, n: u8, round: u8, speaker: u8, listener: u8) -> bool
-        ensures { result ≡ names self.now n round speaker listener };
+    // Whether, among n offices, the turn's speaker speaks to its listener in its round.
+    fn names(&self, n: u8, turn: Turn) -> bool
+        ensures { result ≡ names self.now n turn.round turn.speaker turn.listener };
+
+    // Whether the plan serves n offices.
+    fn serves(&self, n: u8) -> bool
+        ensures { result ≡ served (rounds self.now) n }
+    {
+        0 < self.rounds(n)
+    }
 
     // What holds of every plan, covering among it.
     ghost laws: { (p : Self) → PlanLaws (rounds p) (names p) };
 }
 
-// Whether the plan serves n offices.
-pub fn serves<P: Plan>(plan: &P, n: u8) -> bool
-    ensures { result ≡ served (P.Plan.rounds plan.now) n }
+// So many rounds for 2 to 16 offices, and none for any other number.
+pub(crate) fn rounds_from_2_to_16(n: u8, rounds: u8) -> u8
+    ensures { result ≡ cond (two_to_sixteen n) rounds 0 }
 {
-    0 < plan.rounds(n)
-}
-
-// Whether the offices are 2 to 16.
-pub(crate) fn from_2_to_16(n: u8) -> bool
-    ensures { result ≡ two_to_sixteen n }
-{
-    2 <= n && n <= 16
-}
-
-// Whether the round is one of h rounds, and the speaker and the listener are two of n offices.
-pub(crate) fn is_proper(n: u8, h: u8, round: u8, speaker: u8, listener: u8) -> bool
-    ensures { result ≡ proper n h round speaker listener }
-{
-    1 <= round && round <= h && speaker < n && listener < n && speaker != listener
+    if (2..=16).contains(&n) { rounds } else { 0 }
 }

@@ -2,11 +2,12 @@
 ghost use Rattle.plans.specs.Star.{star_rounds, star_names};
 ghost use Rattle.plans.specs.LawsLemmas.{star_laws};
 
-use crate::plan::{Plan, from_2_to_16, is_proper};
+use crate::plan::{Plan, rounds_from_2_to_16};
+use crate::turn::Turn;
 
 // Two rounds: the others speak to office 0, then office 0 speaks to the others (in the field's terms, a
 // centralized plan, with office 0 as coordinator).
-#[derive(Clone, Copy)]
+#[derive(Clone, Copy, Debug, PartialEq, Eq)]
 pub struct Star;
 
 impl Plan for Star {
@@ -17,15 +18,14 @@ impl Plan for Star {
     ghost laws = { λ p. star_laws };
 
     fn rounds(&self, n: u8) -> u8 {
-        if from_2_to_16(n) { 2 } else { 0 }
+        rounds_from_2_to_16(n, 2)
     }
 
-    fn names(&self, n: u8, round: u8, speaker: u8, listener: u8) -> bool {
-        is_proper(n, self.rounds(n), round, speaker, listener)
-            && if round == 1 {
-                listener == 0
-            } else {
-                speaker == 0
+    fn names(&self, n: u8, turn: Turn) -> bool {
+        turn.is_proper(n, self.rounds(n))
+            && match turn.round {
+                1 => turn.listener == 0,
+                _ => turn.speaker == 0,
             }
     }
 }
