@@ -1,0 +1,22 @@
+-- What a look-up and a notice line answer, from what their parts do. Assumes nothing.
+use Rattle.std.proofs.Common.{◌≡◌, ℕ, ◌<◌, List, length, Option, Some, None, MatchOption, refl, inl, inr, arith}
+use Rattle.std.specs.Borrow.{Bor}
+use Rattle.std.specs.Option.{ok_or}
+use Rattle.refusals.specs.Questions.{Passes}
+use Rattle.notice.specs.declared.fault.TextFault.TheVariants.{Code}
+use Rattle.notice.specs.declared.fault.NoticeFault.TheVariants.{Room}
+use Rattle.notice.specs.Lines.{notice_line, line_questions, PutOver, LinePut, Written}
+use Rattle.notice.specs.Tables.{Sized, Formed, Found, FirstText}
+use Rattle.notice.specs.Texts.{TextFor, text_questions, LookedUp}
+use Rattle.notice.proofs.Unique.{line_fits, line_over}
+
+module _ (own english : List ℕ) (code : ℕ) where
+  -- a notice line, by its look-up and what is put over the output
+  pub written : (office : ℕ) (text before after : List ℕ) (put : Option ℕ) → office < 16 → Passes (text_questions own english code) → TextFor own english code text → PutOver (notice_line office text) before after put → Written office code own english before after (ok_or put Room)
+  unfolding line_questions
+  written office text before after (Some n) below (sized, (formed, (holds, _))) right (put, end, within) =
+      let fits = line_fits own english code office (length before) text right (omega arith) in
+      ((below, (sized, (formed, (holds, (fits, tt))))), record { text = text; right = right; put = put; end = end; within = within })
+  written office text before after None below (sized, (formed, (holds, _))) right (kept, short) =
+      let over = line_over own english code office (length before) text right short in
+      (inr (below, inr (sized, inr (formed, inr (holds, inl (over, refl))))), kept)
