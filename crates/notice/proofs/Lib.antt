@@ -1,4 +1,4 @@
-pub mod Answered
+pub mod Written
 pub mod Bytes
 pub mod Records
 pub mod Unique

@@ -1,5 +1,5 @@
 -- The records of a table as its chunks of 64 bytes. Assumes nothing.
-use Rattle.std.proofs.Common.{◌≡◌, ℕ, zero, suc, ◌+◌, ◌-◌, ◌*◌, ◌/◌, ◌<◌, ◌≤◌, ◌≢◌, List, [], ◌∷◌, length, take, drop, get_or, Option, Some, None, MatchOption, Bool, true, false, MatchBool, Decides, refl, sym, ap, ◌∙◌, subst, add-zero, zero-add, length-take, length-drop, arith}
+use Rattle.std.proofs.Common.{◌≡◌, ℕ, zero, suc, ◌+◌, ◌-◌, ◌*◌, ◌<◌, ◌≤◌, ◌≢◌, List, [], length, take, drop, get_or, Option, Some, None, MatchOption, Bool, true, false, MatchBool, Decides, refl, sym, ap, ◌∙◌, subst, add-zero, zero-add, length-take, length-drop, arith}
 use Rattle.std.specs.Borrow.{Bor}
 use Rattle.std.specs.List.{AllWithin, HoldsAt}
 use Rattle.std.specs.Simd.{first_chunks}

@@ -1,5 +1,5 @@
 -- The notice line, the questions that it asks, and what it answers and leaves in the output. Assumes nothing.
-use Rattle.std.specs.Prelude.{◌≡◌, ℕ, ◌+◌, ◌<◌, ◌≤◌, ◌⊎◌, List, [], ◌∷◌, ◌++◌, length, drop, Some, None, Option, Result}
+use Rattle.std.specs.Prelude.{◌≡◌, ℕ, ◌<◌, ◌≤◌, ◌⊎◌, List, [], ◌∷◌, ◌++◌, length, drop, Some, None, Option, Result}
 use Rattle.refusals.specs.Digits.{two_digits}
 use Rattle.refusals.specs.Questions.{Passes, Refuses, Answers}
 use Rattle.notice.specs.declared.fault.NoticeFault.{NoticeFault}

@@ -21,6 +21,7 @@ pub struct CounterNotice {
 
 impl CounterNotice {
     // Writes the notice line at the front of the output, and answers its length.
+    #[tactic(auto, using(crate::proofs::Written::written), unfolding(crate::specs::Lines::line_questions))]
     pub fn write_line(self, tables: Tables, out: &mut [u8]) -> Result<usize, NoticeFault>
         ensures { Written self.office self.code tables.entry.own.now tables.entry.english.now out.old out.new result }
     {
@@ -32,7 +33,8 @@ impl CounterNotice {
     }
 
     // Writes what a counter shows at the front of the output: the notice line, or the refusing number as
-    // a line of two digits. Answers the length of what it wrote.
+    // a line of two digits. Answers the length of what it wrote: no heap is used, so the output is lent
+    // memory of a fixed size, and what stands past the line stays as it was.
     pub fn show_line(self, tables: Tables, out: &mut [u8; LONGEST_LINE]) -> usize
         ensures shown { Shown self.office self.code tables.entry.own.now tables.entry.english.now out.old out.new result }
         ensures within { result ≤ 66 }

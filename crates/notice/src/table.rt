@@ -35,6 +35,7 @@ impl<'a> Records<'a> {
     }
 
     // The records one by one.
+    #[tactic(auto, using(crate::proofs::Records::chunk_at))]
     fn each(self) -> &'a [[u8; RECORD]]
         ensures count { length result.now ≡ records self.entry.bytes.now }
         ensures parts { EachRecord self.entry.bytes.now result.now }
@@ -70,6 +71,7 @@ pub(crate) struct TextTable<'a> {
 
 impl<'a> TextTable<'a> {
     // The text of the first record with this code.
+    #[tactic(auto, using(crate::proofs::Records::first_fits, crate::proofs::Records::first_text))]
     pub(crate) fn find(self, code: u8) -> Option<&'a [u8]>
         ensures { Found self.entry.records.bytes.now code result }
     {

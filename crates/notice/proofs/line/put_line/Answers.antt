@@ -1,4 +1,4 @@
-use Rattle.std.proofs.Common.{◌≡◌, rules, List, [], ◌∷◌, arith, append_assoc, length-append}
+use Rattle.std.proofs.Common.{[], ◌∷◌, arith, append_assoc, length-append}
 use Rattle.notice.proofs.Bytes.{line_rest}
 use Rattle.notice.proofs.line.put_line.Goals as goal
 

@@ -1,6 +1,5 @@
-use Rattle.std.proofs.Common.{◌≡◌, ◌≤◌, arith, rules}
+use Rattle.std.proofs.Common.{◌≤◌, rules}
 use borrow.Author.Tests.{tests}
-use Rattle.notice.specs.Tables.{FormedAt}
 use Rattle.notice.proofs.Records.{record_formed}
 use Rattle.notice.proofs.table.record_formed.Goals as goal
 

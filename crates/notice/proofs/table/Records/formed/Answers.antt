@@ -1,4 +1,4 @@
-use Rattle.std.proofs.Common.{◌≡◌, ◌≢◌, true, Decides, refl, rules}
+use Rattle.std.proofs.Common.{◌≡◌, true, Decides, refl, rules}
 use borrow.Author.Tests.{tests}
 use Rattle.std.proofs.lemmas.Iterator.{cases_from_all, YieldsList-from_slice}
 use Rattle.notice.specs.Tables.{FormedAt, Formed}

@@ -1,13 +1,10 @@
--- What a look-up and a notice line answer, from what their parts do. Assumes nothing.
-use Rattle.std.proofs.Common.{◌≡◌, ℕ, ◌<◌, List, length, Option, Some, None, MatchOption, refl, inl, inr, arith}
-use Rattle.std.specs.Borrow.{Bor}
+-- What a notice line answers, from what its parts do. Assumes nothing.
+use Rattle.std.proofs.Common.{ℕ, ◌<◌, List, length, Option, Some, None, refl, inl, inr, arith}
 use Rattle.std.specs.Option.{ok_or}
 use Rattle.refusals.specs.Questions.{Passes}
-use Rattle.notice.specs.declared.fault.TextFault.TheVariants.{Code}
 use Rattle.notice.specs.declared.fault.NoticeFault.TheVariants.{Room}
-use Rattle.notice.specs.Lines.{notice_line, line_questions, PutOver, LinePut, Written}
-use Rattle.notice.specs.Tables.{Sized, Formed, Found, FirstText}
-use Rattle.notice.specs.Texts.{TextFor, text_questions, LookedUp}
+use Rattle.notice.specs.Lines.{notice_line, line_questions, PutOver, Written}
+use Rattle.notice.specs.Texts.{TextFor, text_questions}
 use Rattle.notice.proofs.Unique.{line_fits, line_over}
 
 module _ (own english : List ℕ) (code : ℕ) where
