@@ -43,6 +43,7 @@ impl Refusal for NoticeFault {
 
     ghost digits = { Prim.search rules };
 
+    // `as` takes no enum with a variant that has a field.
     fn number(&self) -> u8 {
         match self {
             NoticeFault::Office => 5,

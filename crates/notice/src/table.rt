@@ -12,6 +12,9 @@ const RECORD: usize = 64;
 // The most records that a table has.
 const MOST_RECORDS: usize = 256;
 
+// The bytes of a record before its text: its code and the length of its text.
+const HEAD: usize = 2;
+
 // The longest text of a record.
 const LONGEST: usize = 62;
 
@@ -77,7 +80,7 @@ impl<'a> TextTable<'a> {
     {
         let record = self.records.first_with(code)?;
         let length = usize::from(record[1]);
-        Some(&record[2..2 + length])
+        Some(&record[HEAD..HEAD + length])
     }
 }
 
@@ -86,7 +89,7 @@ fn record_formed(bytes: &[u8; RECORD]) -> bool
     ensures { Decides result (FormedAt bytes.now 0) }
 {
     let length = usize::from(bytes[1]);
-    (1..=LONGEST).contains(&length) && all_zero(&bytes[2 + length..])
+    (1..=LONGEST).contains(&length) && all_zero(&bytes[HEAD + length..])
 }
 
 // Whether each byte is zero.

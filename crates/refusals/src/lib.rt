@@ -17,7 +17,8 @@ pub trait Refusal: Sized {
     ghost digits: { (f : Self) → number f < 100 };
 }
 
-// The two decimal digits of a number below 100, in ASCII.
+// The two decimal digits of a number below 100, in ASCII. They are computed, since no heap is used and the
+// proof of `write!` with `{:02}` into a lent slice doesn't close: it learns nothing of the bytes written.
 pub fn two_digits(n: u8) -> [u8; 2]
     ensures { result ≡ two_digits n }
 {
