@@ -12,7 +12,8 @@ pub struct Tables<'a> {
 }
 
 impl<'a> Tables<'a> {
-    // The text for a code: a part of the office's table, or, where that lacks the code, of the English one.
+    // The text for a code: a part of the office's table, or, where that lacks the code, of the English
+    // one.
     pub fn look_up(self, code: u8) -> Result<&'a [u8], TextFault>
         ensures { LookedUp self.entry.own.now self.entry.english.now code result }
     {
