@@ -1,5 +1,5 @@
 -- A code has at most one text, so whether its line fits is a question about that text. Assumes nothing.
-use Rattle.std.proofs.Common.{◌≡◌, ℕ, ◌<◌, ◌≤◌, List, length, sym, ap, ◌∙◌, inl, inr, arith}
+use Rattle.std.proofs.Common.{◌≡◌, ℕ, ◌+◌, ◌<◌, ◌≤◌, List, [], ◌∷◌, length, sym, ap, ◌∙◌, inl, inr, arith, length-append}
 use Rattle.std.proofs.lemmas.Bool.{cases_order}
 use Rattle.notice.specs.Lines.{notice_line}
 use Rattle.notice.specs.Tables.{FirstText, text_at}
@@ -21,10 +21,10 @@ module _ (own english : List ℕ) (code : ℕ) where
   text_unique a b (inr x) (inr y) = first_unique english code a b x.1 y.1
 
   module _ (office room : ℕ) (text : List ℕ) (right : TextFor own english code text) where
-    pub line_fits : length (notice_line office text) ≤ room → (t : List ℕ) → TextFor own english code t → length (notice_line office t) ≤ room
+    pub line_fits : length text + 4 ≤ room → (t : List ℕ) → TextFor own english code t → length (notice_line office t) ≤ room
     line_fits enough t other =
-        let same : length (notice_line office t) ≡ length (notice_line office text) = ap (λ s. length (notice_line office s)) (text_unique t text other right) in
-        omega arith
+        let same = text_unique t text other right in
+        omega (arith, ap length same, length-append t (10 ∷ []))
 
-    pub line_over : room < length (notice_line office text) → ((t : List ℕ) → TextFor own english code t → length (notice_line office t) ≤ room) → ⊥
-    line_over short all = let fits = all text right in omega arith
+    pub line_over : room < length text + 4 → ((t : List ℕ) → TextFor own english code t → length (notice_line office t) ≤ room) → ⊥
+    line_over short all = let fits = simp length-append at (all text right) in omega arith
