@@ -48,11 +48,11 @@ fn each_answers(table: &[u8], code: u8, number: u8, text: &[u8]) -> bool {
 // Fills a table with records of the code 1, and a first one of the code 2.
 fn fill(table: &mut [u8]) {
     let (places, _) = table.as_chunks_mut::<64>();
-    for place in places.iter_mut() {
-        put(place, record(1, 1, b"x"));
-    }
-    if let Some(first) = places.first_mut() {
+    if let Some((first, others)) = places.split_first_mut() {
         put(first, record(2, 1, b"y"));
+        for place in others.iter_mut() {
+            put(place, record(1, 1, b"x"));
+        }
     }
 }
 
