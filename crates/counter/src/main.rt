@@ -3,7 +3,7 @@
 // refuses it as a line of two digits.
 #![tactic(auto)]
 
-use notice::{LONGEST_LINE, show_line};
+use notice::{CounterNotice, LONGEST_LINE, Tables};
 use std::alloc::AllocError;
 use std::io::{Read, Write};
 use std::process::ExitCode;
@@ -52,10 +52,8 @@ impl From<io::Error> for CounterError {
 
 // An argument that is a number from 0 to 255.
 fn number(what: &'static str, text: String) -> Result<u8, CounterError> {
-    match text.parse::<u8>() {
-        Ok(n) => Ok(n),
-        Err(_) => Err(CounterError::NoNumber { what, text }),
-    }
+    text.parse::<u8>()
+        .map_err(|_| CounterError::NoNumber { what, text })
 }
 
 // The start of a file, as far as a table can go.
@@ -69,10 +67,7 @@ fn start_of(rt: &HostRuntime, name: &str) -> io::Result<Vec<u8>> {
 
 // The bytes of a table's file.
 fn table(rt: &HostRuntime, name: String) -> Result<Vec<u8>, CounterError> {
-    match start_of(rt, name.as_str()) {
-        Ok(bytes) => Ok(bytes),
-        Err(cause) => Err(CounterError::NoTable { name, cause }),
-    }
+    start_of(rt, name.as_str()).map_err(|cause| CounterError::NoTable { name, cause })
 }
 
 fn run(rt: &HostRuntime) -> Result<(), CounterError> {
@@ -90,9 +85,13 @@ fn run(rt: &HostRuntime) -> Result<(), CounterError> {
     let code = number("code", code)?;
     let own = table(rt, own)?;
     let english = table(rt, english)?;
+    let tables = Tables {
+        own: &own,
+        english: &english,
+    };
     let mut out = [0u8; LONGEST_LINE];
-    let length = show_line(office, code, &own, &english, &mut out);
-    rt.stdout().write_all(&out[0..length])?;
+    let length = CounterNotice { office, code }.show_line(tables, &mut out);
+    rt.stdout().write_all(&out[..length])?;
     Ok(())
 }
 

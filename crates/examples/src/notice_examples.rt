@@ -1,5 +1,5 @@
 // Text tables, look-ups and notice lines.
-use notice::{LONGEST_LINE, look_up, show_line, write_line};
+use notice::{CounterNotice, LONGEST_LINE, Tables};
 use refusals::Refusal;
 
 // A record of a table: its code, the length that it says, and its text.
@@ -14,27 +14,27 @@ fn record(code: u8, length: u8, text: &[u8]) -> TextRecord<'_> {
     TextRecord { code, length, text }
 }
 
-// Writes record k of a table of zeros.
-fn put(table: &mut [u8], k: usize, record: TextRecord) {
-    let size = record.text.len();
-    if k < 257 && table.len() >= 64 * k + 64 && size <= 62 {
-        table[64 * k] = record.code;
-        table[64 * k + 1] = record.length;
-        table[64 * k + 2..64 * k + 2 + size].copy_from_slice(record.text);
+// Writes a record over the 64 zeros that stand for it in a table.
+fn put(place: &mut [u8; 64], record: TextRecord) {
+    place[0] = record.code;
+    place[1] = record.length;
+    for (byte, letter) in place[2..].iter_mut().zip(record.text) {
+        *byte = *letter;
     }
 }
 
 // The table of two records.
 fn pair(first: TextRecord, second: TextRecord) -> [u8; 128] {
     let mut table = [0u8; 128];
-    put(&mut table, 0, first);
-    put(&mut table, 1, second);
+    let (places, _) = table.as_chunks_mut::<64>();
+    put(&mut places[0], first);
+    put(&mut places[1], second);
     table
 }
 
 // Whether the look-up answers this number, or, where it is 0, finds this text.
 fn answers(own: &[u8], english: &[u8], code: u8, number: u8, text: &[u8]) -> bool {
-    match look_up(own, english, code) {
+    match (Tables { own, english }).look_up(code) {
         Ok(found) => number == 0 && found == text,
         Err(fault) => number == fault.number(),
     }
@@ -47,9 +47,12 @@ fn each_answers(table: &[u8], code: u8, number: u8, text: &[u8]) -> bool {
 
 // Fills a table with records of the code 1, and a first one of the code 2.
 fn fill(table: &mut [u8]) {
-    put(table, 0, record(2, 1, b"y"));
-    for k in 1..table.len() / 64 {
-        put(table, k, record(1, 1, b"x"));
+    let (places, _) = table.as_chunks_mut::<64>();
+    if let Some((first, others)) = places.split_first_mut() {
+        put(first, record(2, 1, b"y"));
+        for place in others.iter_mut() {
+            put(place, record(1, 1, b"x"));
+        }
     }
 }
 
@@ -129,7 +132,8 @@ fn questions_are_asked_in_their_order(rt: HostRuntime) {
 // The number that refuses a line into an output without room.
 fn refused_by(office: u8, code: u8, own: &[u8], english: &[u8]) -> u8 {
     let mut out = [0u8; 0];
-    match write_line(office, code, own, english, &mut out) {
+    let notice = CounterNotice { office, code };
+    match notice.write_line(Tables { own, english }, &mut out) {
         Ok(_) => 0,
         Err(fault) => fault.number(),
     }
@@ -138,9 +142,17 @@ fn refused_by(office: u8, code: u8, own: &[u8], english: &[u8]) -> u8 {
 #[test]
 fn a_line_fits_or_leaves_the_output(rt: HostRuntime) {
     let english = pair(record(6, 5, b"Bring"), record(7, 1, b"x"));
+    let tables = Tables {
+        own: &[],
+        english: &english,
+    };
+    let notice = CounterNotice {
+        office: 15,
+        code: 6,
+    };
     for room in 0..13usize {
         let mut out = [b'.'; 12];
-        let number = match write_line(15, 6, &[], &english, &mut out[0..room.min(12)]) {
+        let number = match notice.write_line(tables, &mut out[0..room.min(12)]) {
             Ok(length) => length,
             Err(fault) => usize::from(fault.number()),
         };
@@ -153,9 +165,13 @@ fn a_line_fits_or_leaves_the_output(rt: HostRuntime) {
 #[test]
 fn offices_are_below_16(rt: HostRuntime) {
     let english = pair(record(6, 5, b"Bring"), record(7, 1, b"x"));
+    let tables = Tables {
+        own: &[],
+        english: &english,
+    };
     for office in 0..=255 {
         let mut out = [b'.'; LONGEST_LINE];
-        let length = show_line(office, 6, &[], &english, &mut out);
+        let length = CounterNotice { office, code: 6 }.show_line(tables, &mut out);
         // the line, or 05 and what was there
         assert_eq!(rt; length, if office < 16 { 9 } else { 3 });
         assert_eq!(rt;
@@ -182,8 +198,13 @@ fn offices_are_below_16(rt: HostRuntime) {
 fn the_longest_line_has_66_bytes(rt: HostRuntime) {
     let text = [b'z'; 62];
     let english = pair(record(6, 62, &text), record(7, 1, b"x"));
+    let tables = Tables {
+        own: &[],
+        english: &english,
+    };
+    let notice = CounterNotice { office: 3, code: 6 };
     let mut out = [b'.'; LONGEST_LINE];
-    assert_eq!(rt; show_line(3, 6, &[], &english, &mut out), 66);
+    assert_eq!(rt; notice.show_line(tables, &mut out), 66);
     assert!(rt; out[0] == b'0' && out[1] == b'3' && out[2] == b' ' && out[3] == b'z');
     assert!(rt; out[64] == b'z' && out[65] == b'\n');
 }
@@ -191,7 +212,8 @@ fn the_longest_line_has_66_bytes(rt: HostRuntime) {
 // Whether a line that has room is refused by this number, and the output stays as it was.
 fn leaves_output(office: u8, code: u8, own: &[u8], number: u8) -> bool {
     let mut out = [b'.'; 12];
-    let refused = match write_line(office, code, own, &[], &mut out) {
+    let notice = CounterNotice { office, code };
+    let refused = match notice.write_line(Tables { own, english: &[] }, &mut out) {
         Ok(_) => 0,
         Err(fault) => fault.number(),
     };

@@ -1,2 +1,4 @@
+pub mod Written
 pub mod Bytes
+pub mod Records
 pub mod Unique

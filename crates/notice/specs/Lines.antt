@@ -1,6 +1,5 @@
 -- The notice line, the questions that it asks, and what it answers and leaves in the output. Assumes nothing.
-use Rattle.std.specs.Prelude.{◌≡◌, ℕ, ◌+◌, ◌<◌, ◌≤◌, ◌⊎◌, List, [], ◌∷◌, ◌++◌, length, drop, Result}
-use Rattle.std.specs.Borrow.{Bor}
+use Rattle.std.specs.Prelude.{◌≡◌, ℕ, ◌<◌, ◌≤◌, ◌⊎◌, List, [], ◌∷◌, ◌++◌, length, drop, Some, None, Option, Result}
 use Rattle.refusals.specs.Digits.{two_digits}
 use Rattle.refusals.specs.Questions.{Passes, Refuses, Answers}
 use Rattle.notice.specs.declared.fault.NoticeFault.{NoticeFault}
@@ -16,17 +15,17 @@ notice_line office text = two_digits office ++ (32 ∷ (text ++ (10 ∷ [])))
 abbrev pub over : List ℕ → List ℕ → List ℕ
 over front before = front ++ drop (length front) before
 
+-- the line stands at the front of the buffer, where it fits, and the rest is as it was; nothing changes where it doesn't fit
+abbrev pub PutOver : List ℕ → List ℕ → List ℕ → Option ℕ → Type 0
+PutOver line before after (Some n) = (after ≡ over line before) × (n ≡ length line) × (n ≤ length before)
+PutOver line before after None = (after ≡ before) × (length before < length line)
+
 -- the questions of a notice line, in their order: the office's, the look-up's, and whether the line of the text for the code fits into the room
 unfoldable pub line_questions : ℕ → ℕ → List ℕ → List ℕ → ℕ → List (ℕ × Type 0)
 line_questions office code own english room =
     (notice_number Office, office < 16)
     ∷ (text_questions own english code
     ++ ((notice_number Room, (text : List ℕ) → TextFor own english code text → length (notice_line office text) ≤ room) ∷ []))
-
--- the text of a line of which every question gets a yes
-abbrev pub LineText : ℕ → ℕ → List ℕ → List ℕ → ℕ → Result (Bor (List ℕ)) NoticeFault → Type 0
-LineText office code own english room =
-    Answers (line_questions office code own english room) notice_number (λ text. TextFor own english code text.now × (length text.now + 4 ≤ room)) (Unit {0})
 
 -- the line with the text for the code stands at the front of the output, the rest is as it was, and n is the line's length, which lies within the output
 pub record LinePut (office code : ℕ) (own english before after : List ℕ) (n : ℕ) : Type 0 where

@@ -1,5 +1,5 @@
 -- Text tables: records of 64 bytes, each a code, a length, a text of that length, and zeros. Assumes nothing.
-use Rattle.std.specs.Prelude.{◌≡◌, ℕ, ◌+◌, ◌*◌, ◌/◌, ◌<◌, ◌≤◌, List, length, take, drop, Some, None, Option, ◌≢◌, slice_index}
+use Rattle.std.specs.Prelude.{◌≡◌, ℕ, ◌+◌, ◌*◌, ◌/◌, ◌<◌, ◌≤◌, List, length, take, drop, Some, None, Option, ◌≢◌, slice_index, slice_index_or}
 use Rattle.std.specs.Borrow.{Bor}
 
 -- how many whole records the table has
@@ -17,6 +17,14 @@ length_at t k = slice_index t (64 * k + 1)
 -- the text of record k: as many bytes as its length says, from its third on
 abbrev pub text_at : List ℕ → ℕ → List ℕ
 text_at t k = take (length_at t k) (drop (64 * k + 2) t)
+
+-- the bytes of record k
+abbrev pub record_at : List ℕ → ℕ → List ℕ
+record_at t k = take 64 (drop (64 * k) t)
+
+-- the elements of the list are the records of the table, in their order
+abbrev pub EachRecord : List ℕ → List (List ℕ) → Type 0
+EachRecord t all = (k : ℕ) (d : List ℕ) → k < records t → slice_index_or all k d ≡ record_at t k
 
 -- the table is made of whole records, at most 256 of them
 abbrev pub Sized : List ℕ → Type 0
@@ -47,6 +55,14 @@ pub record FirstText (t : List ℕ) (code : ℕ) (text : List ℕ) : Type 0 wher
   pub same : code_at t place ≡ code
   pub first : (k : ℕ) → k < place → code_at t k ≢ code
   pub part : text ≡ text_at t place
+
+-- the bytes are those of the first record of the table with the code
+pub record FirstRecord (t : List ℕ) (code : ℕ) (bytes : List ℕ) : Type 0 where
+  pub place : ℕ
+  pub inside : place < records t
+  pub same : code_at t place ≡ code
+  pub first : (k : ℕ) → k < place → code_at t k ≢ code
+  pub part : bytes ≡ record_at t place
 
 -- what a search of one table gives
 abbrev pub Found : List ℕ → ℕ → Option (Bor (List ℕ)) → Type 0

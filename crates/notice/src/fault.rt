@@ -6,15 +6,15 @@ ghost use Rattle.std.proofs.Common.{rules};
 
 use refusals::Refusal;
 
-// What a look-up is refused for.
-#[derive(Clone, Copy, PartialEq, Eq)]
+// What a look-up is refused for, by the number of its question.
+#[derive(Clone, Copy, Debug, PartialEq, Eq)]
 pub enum TextFault {
     // A table is not made of at most 256 whole records.
-    Table,
+    Table = 25,
     // A record's length is not 1 to 62, or the rest of the record is not zero.
-    Record,
+    Record = 26,
     // No table holds the code.
-    Code,
+    Code = 27,
 }
 
 impl Refusal for TextFault {
@@ -23,16 +23,12 @@ impl Refusal for TextFault {
     ghost digits = { Prim.search rules };
 
     fn number(&self) -> u8 {
-        match self {
-            TextFault::Table => 25,
-            TextFault::Record => 26,
-            TextFault::Code => 27,
-        }
+        *self as u8
     }
 }
 
 // What a notice line is refused for.
-#[derive(Clone, Copy, PartialEq, Eq)]
+#[derive(Clone, Copy, Debug, PartialEq, Eq)]
 pub enum NoticeFault {
     // The office is not below 16.
     Office,
@@ -47,6 +43,7 @@ impl Refusal for NoticeFault {
 
     ghost digits = { Prim.search rules };
 
+    // `as` takes no enum with a variant that has a field.
     fn number(&self) -> u8 {
         match self {
             NoticeFault::Office => 5,

@@ -5,10 +5,8 @@
 mod fault;
 mod line;
 mod lookup;
-mod shown;
 mod table;
 
 pub use fault::{NoticeFault, TextFault};
-pub use line::write_line;
-pub use lookup::look_up;
-pub use shown::{LONGEST_LINE, show_line};
+pub use line::{CounterNotice, LONGEST_LINE};
+pub use lookup::Tables;

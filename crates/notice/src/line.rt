@@ -1,59 +1,65 @@
 // The notice line: two digits of the office, a space, the text and a line feed.
-ghost use Rattle.std.specs.Prelude.{◌≡◌, ◌+◌, ◌≤◌, length};
-ghost use Rattle.notice.specs.Lines.{notice_line, over, LineText, Written};
+ghost use Rattle.std.specs.Prelude.{◌≤◌};
+ghost use Rattle.notice.specs.Lines.{notice_line, PutOver, Written, Shown};
 
 use crate::fault::NoticeFault;
-use crate::lookup::look_up;
+use crate::lookup::Tables;
+use refusals::{refusal_line, two_digits};
+
+// The bytes of the longest line: two digits, a space, a text of 62 and a line feed.
+pub const LONGEST_LINE: usize = 66;
 
 // The bytes of a line besides its text.
 const AROUND: usize = 4;
 
-// Asks the questions of a notice line, for an output of `room` bytes, and gives its text.
-fn line_text<'a>(
-    office: u8,
-    code: u8,
-    own: &'a [u8],
-    english: &'a [u8],
-    room: usize,
-) -> Result<&'a [u8], NoticeFault>
-    ensures { LineText office code own.now english.now room result }
-{
-    if office >= 16 {
-        return Err(NoticeFault::Office);
-    }
-    let text = look_up(own, english, code)?;
-    if room < AROUND || room - AROUND < text.len() {
-        return Err(NoticeFault::Room);
-    }
-    Ok(text)
+// What a counter shows: the office that shows it, and the code of its text.
+#[derive(Clone, Copy, Debug, PartialEq, Eq)]
+pub struct CounterNotice {
+    pub office: u8,
+    pub code: u8,
 }
 
-// Writes the line over the front of the output, and gives its length.
-fn put_line(office: u8, text: &[u8], out: &mut [u8]) -> usize
-    requires { length text.now + 4 ≤ length out.old }
-    ensures put { out.new ≡ over (notice_line office text.now) out.old }
-    ensures end { result ≡ length (notice_line office text.now) }
-    ensures within { result ≤ length out.old }
-{
-    let end = text.len() + 3;
-    out[0] = b'0' + office / 10;
-    out[1] = b'0' + office % 10;
-    out[2] = b' ';
-    out[3..end].copy_from_slice(text);
-    out[end] = b'\n';
-    end + 1
+impl CounterNotice {
+    // Writes the notice line at the front of the output, and answers its length.
+    #[tactic(auto, using(crate::proofs::Written::written), unfolding(crate::specs::Lines::line_questions))]
+    pub fn write_line(self, tables: Tables, out: &mut [u8]) -> Result<usize, NoticeFault>
+        ensures { Written self.office self.code tables.entry.own.now tables.entry.english.now out.old out.new result }
+    {
+        if self.office >= 16 {
+            return Err(NoticeFault::Office);
+        }
+        let text = tables.look_up(self.code)?;
+        put_line(self.office, text, out).ok_or(NoticeFault::Room)
+    }
+
+    // Writes what a counter shows at the front of the output: the notice line, or the refusing number as
+    // a line of two digits. Answers the length of what it wrote: no heap is used, so the output is lent
+    // memory of a fixed size, and what stands past the line stays as it was.
+    pub fn show_line(self, tables: Tables, out: &mut [u8; LONGEST_LINE]) -> usize
+        ensures shown { Shown self.office self.code tables.entry.own.now tables.entry.english.now out.old out.new result }
+        ensures within { result ≤ 66 }
+    {
+        match self.write_line(tables, out) {
+            Ok(length) => length,
+            Err(fault) => {
+                let line = refusal_line(&fault);
+                out[..line.len()].copy_from_slice(&line);
+                line.len()
+            }
+        }
+    }
 }
 
-// Writes the notice line at the front of the output, and answers its length.
-pub fn write_line(
-    office: u8,
-    code: u8,
-    own: &[u8],
-    english: &[u8],
-    out: &mut [u8],
-) -> Result<usize, NoticeFault>
-    ensures { Written office code own.now english.now out.old out.new result }
+// Writes the line over the front of the output, where that has room, and gives its length.
+fn put_line(office: u8, text: &[u8], out: &mut [u8]) -> Option<usize>
+    ensures { PutOver (notice_line office text.now) out.old out.new result }
 {
-    let text = line_text(office, code, own, english, out.len())?;
-    Ok(put_line(office, text, out))
+    let (head, rest) = out.split_first_chunk_mut::<3>()?;
+    let (place, rest) = rest.split_at_mut_checked(text.len())?;
+    let (feed, _) = rest.split_first_mut()?;
+    let [tens, ones] = two_digits(office);
+    *head = [tens, ones, b' '];
+    place.copy_from_slice(text);
+    *feed = b'\n';
+    Some(text.len() + AROUND)
 }

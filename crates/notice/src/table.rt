@@ -1,6 +1,10 @@
 // Text tables: records of 64 bytes, each a code, a length, a text of that length, and zeros.
-ghost use Rattle.std.specs.Prelude.{◌+◌, ◌*◌, ◌≤◌, length, Decides};
-ghost use Rattle.notice.specs.Tables.{Sized, FormedAt, Formed, Found};
+ghost use Rattle.std.specs.Prelude.{◌≡◌, ℕ, ◌<◌, length, slice_index, Decides, MatchOption, MatchResult};
+ghost use Rattle.std.proofs.Props.{props};
+ghost use Rattle.notice.specs.declared.fault.TextFault.TheVariants.{Table, Record};
+ghost use Rattle.notice.specs.Tables.{Sized, FormedAt, Formed, Found, Lacks, FirstRecord, EachRecord, records};
+
+use crate::fault::TextFault;
 
 // The bytes of a record.
 const RECORD: usize = 64;
@@ -8,55 +12,89 @@ const RECORD: usize = 64;
 // The most records that a table has.
 const MOST_RECORDS: usize = 256;
 
+// The bytes of a record before its text: its code and the length of its text.
+const HEAD: usize = 2;
+
 // The longest text of a record.
 const LONGEST: usize = 62;
 
-// Whether the table is made of whole records, and at most 256 of them.
-pub(crate) fn sized(table: &[u8]) -> bool
-    ensures { Decides result (Sized table.now) }
-{
-    table.len() % RECORD == 0 && table.len() / RECORD <= MOST_RECORDS
+// The bytes of a table that is made of whole records, and at most 256 of them.
+#[derive(Clone, Copy, Debug)]
+pub(crate) struct Records<'a> {
+    bytes: &'a [u8],
+    ghost sized: { Sized bytes.now },
 }
 
-// Whether record k has a length of 1 to 62 and zeros after its text.
-fn formed_at(table: &[u8], k: usize) -> bool
-    requires { 64 * k + 64 ≤ length table.now }
-    ensures { Decides result (FormedAt table.now k) }
-{
-    let length = table[RECORD * k + 1] as usize;
-    if length < 1 || length > LONGEST {
-        return false;
+impl<'a> Records<'a> {
+    // The records of a table, where it is so made.
+    pub(crate) fn of(bytes: &'a [u8]) -> Result<Records<'a>, TextFault>
+        ensures { MatchResult result (λ r. r.bytes.now ≡ bytes.now) (λ e. (e ≡ Table) × (Sized bytes.now → ⊥)) }
+    {
+        let (whole, rest) = bytes.as_chunks::<RECORD>();
+        if !rest.is_empty() || whole.len() > MOST_RECORDS {
+            return Err(TextFault::Table);
+        }
+        Ok(Records { bytes })
     }
-    for j in length + 2..RECORD {
-        if table[RECORD * k + j] != 0 {
-            return false;
+
+    // The records one by one.
+    #[tactic(auto, using(crate::proofs::Records::chunk_at))]
+    fn each(self) -> &'a [[u8; RECORD]]
+        ensures count { length result.now ≡ records self.entry.bytes.now }
+        ensures parts { EachRecord self.entry.bytes.now result.now }
+    {
+        self.bytes.as_chunks::<RECORD>().0
+    }
+
+    // The first record with this code.
+    fn first_with(self, code: u8) -> Option<&'a [u8; RECORD]>
+        ensures { MatchOption result (Lacks self.entry.bytes.now code) (λ r. FirstRecord self.entry.bytes.now code r.now) }
+    {
+        self.each().iter().find(|record| record[0] == code)
+    }
+
+    // The table, where each of its records has a length of 1 to 62 and zeros after its text.
+    pub(crate) fn formed(self) -> Result<TextTable<'a>, TextFault>
+        ensures { MatchResult result (λ r. r.records.bytes.now ≡ self.entry.bytes.now) (λ e. (e ≡ Record) × (Formed self.entry.bytes.now → ⊥)) }
+    {
+        if self.each().iter().all(record_formed) {
+            Ok(TextTable { records: self })
+        } else {
+            Err(TextFault::Record)
         }
     }
-    true
 }
 
-// Whether every record is so.
-pub(crate) fn formed(table: &[u8]) -> bool
-    ensures { Decides result (Formed table.now) }
-{
-    for k in 0..table.len() / RECORD {
-        if !formed_at(table, k) {
-            return false;
-        }
-    }
-    true
+// A table whose records each have a length of 1 to 62 and zeros after their text.
+#[derive(Clone, Copy, Debug)]
+pub(crate) struct TextTable<'a> {
+    records: Records<'a>,
+    ghost formed: { Formed records.bytes.now } by { Prim.hlevel props },
 }
 
-// The text of the first record with this code.
-pub(crate) fn find(table: &[u8], code: u8) -> Option<&[u8]>
-    requires { Formed table.now }
-    ensures { Found table.now code result }
-{
-    for k in 0..table.len() / RECORD {
-        if table[RECORD * k] == code {
-            let length = table[RECORD * k + 1] as usize;
-            return Some(&table[RECORD * k + 2..RECORD * k + 2 + length]);
-        }
+impl<'a> TextTable<'a> {
+    // The text of the first record with this code.
+    #[tactic(auto, using(crate::proofs::Records::first_fits, crate::proofs::Records::first_text))]
+    pub(crate) fn find(self, code: u8) -> Option<&'a [u8]>
+        ensures { Found self.entry.records.bytes.now code result }
+    {
+        let record = self.records.first_with(code)?;
+        let length = usize::from(record[1]);
+        Some(&record[HEAD..HEAD + length])
     }
-    None
+}
+
+// Whether a record has a length of 1 to 62 and zeros after its text.
+fn record_formed(bytes: &[u8; RECORD]) -> bool
+    ensures { Decides result (FormedAt bytes.now 0) }
+{
+    let length = usize::from(bytes[1]);
+    (1..=LONGEST).contains(&length) && all_zero(&bytes[HEAD + length..])
+}
+
+// Whether each byte is zero.
+fn all_zero(bytes: &[u8]) -> bool
+    ensures { Decides result ((j : ℕ) → j < length bytes.now → slice_index bytes.now j ≡ 0) }
+{
+    bytes.iter().all(|byte| *byte == 0)
 }

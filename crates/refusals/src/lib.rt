@@ -17,10 +17,18 @@ pub trait Refusal: Sized {
     ghost digits: { (f : Self) → number f < 100 };
 }
 
+// The two decimal digits of a number below 100, in ASCII. They are computed, since no heap is used and the
+// proof of `write!` with `{:02}` into a lent slice doesn't close: it learns nothing of the bytes written.
+pub fn two_digits(n: u8) -> [u8; 2]
+    ensures { result ≡ two_digits n }
+{
+    [b'0' + n / 10, b'0' + n % 10]
+}
+
 // The line that a program prints for a refusal: the number in two digits, and a line feed.
 pub fn refusal_line<F: Refusal>(fault: &F) -> [u8; 3]
     ensures { result ≡ two_digits (F.Refusal.number fault.now) ++ (10 ∷ []) }
 {
-    let n = fault.number();
-    [b'0' + n / 10, b'0' + n % 10, b'\n']
+    let [tens, ones] = two_digits(fault.number());
+    [tens, ones, b'\n']
 }
