@@ -5,6 +5,8 @@
 #[cfg(test)]
 mod notice_examples;
 #[cfg(test)]
+mod numbered;
+#[cfg(test)]
 mod plan_examples;
 #[cfg(test)]
 mod post_examples;

@@ -1,6 +1,6 @@
 // Text tables, look-ups and notice lines.
+use crate::numbered::numbered;
 use notice::{CounterNotice, LONGEST_LINE, Tables};
-use refusals::Refusal;
 
 // A record of a table: its code, the length that it says, and its text.
 #[derive(Clone, Copy)]
@@ -32,17 +32,14 @@ fn pair(first: TextRecord, second: TextRecord) -> [u8; 128] {
     table
 }
 
-// Whether the look-up answers this number, or, where it is 0, finds this text.
-fn answers(own: &[u8], english: &[u8], code: u8, number: u8, text: &[u8]) -> bool {
-    match (Tables { own, english }).look_up(code) {
-        Ok(found) => number == 0 && found == text,
-        Err(fault) => number == fault.number(),
-    }
+// Whether the look-up answers this: a text, or the number that refuses it.
+fn answers(own: &[u8], english: &[u8], code: u8, expected: Result<&[u8], u8>) -> bool {
+    numbered(Tables { own, english }.look_up(code)) == expected
 }
 
 // The same of either table: the other is empty.
-fn each_answers(table: &[u8], code: u8, number: u8, text: &[u8]) -> bool {
-    answers(table, &[], code, number, text) && answers(&[], table, code, number, text)
+fn each_answers(table: &[u8], code: u8, expected: Result<&[u8], u8>) -> bool {
+    answers(table, &[], code, expected) && answers(&[], table, code, expected)
 }
 
 // Fills a table with records of the code 1, and a first one of the code 2.
@@ -62,19 +59,19 @@ fn tables_have_at_most_256_records(rt: HostRuntime) {
     fill(&mut full);
     let mut over = [0u8; 16_448];
     fill(&mut over);
-    assert!(rt; each_answers(&full, 2, 0, b"y") && each_answers(&over, 2, 25, b""));
+    assert!(rt; each_answers(&full, 2, Ok(b"y")) && each_answers(&over, 2, Err(25)));
 }
 
 #[test]
 fn tables_are_whole_records(rt: HostRuntime) {
     let table = pair(record(2, 1, b"y"), record(3, 1, b"z"));
     for size in 0..129usize {
-        let number = match size {
-            0 => 27,
-            64 | 128 => 0,
-            _ => 25,
+        let expected = match size {
+            0 => Err(27),
+            64 | 128 => Ok(b"y".as_slice()),
+            _ => Err(25),
         };
-        assert!(rt; each_answers(&table[0..size], 2, number, b"y"));
+        assert!(rt; each_answers(&table[0..size], 2, expected));
     }
 }
 
@@ -83,13 +80,17 @@ fn lengths_are_1_to_62(rt: HostRuntime) {
     let text = [b'a'; 62];
     for length in 0..=255 {
         // a shorter length leaves letters where zeros must be
-        let number = if length == 62 { 0 } else { 26 };
+        let expected = if length == 62 {
+            Ok(text.as_slice())
+        } else {
+            Err(26)
+        };
         let table = pair(record(7, length, &text), record(8, 1, b"b"));
-        assert!(rt; each_answers(&table, 7, number, &text));
+        assert!(rt; each_answers(&table, 7, expected));
     }
     let shortest = pair(record(7, 1, b"a"), record(8, 1, b"b"));
     let empty = pair(record(7, 1, b"a"), record(8, 0, b""));
-    assert!(rt; each_answers(&shortest, 7, 0, b"a") && each_answers(&empty, 7, 26, b""));
+    assert!(rt; each_answers(&shortest, 7, Ok(b"a")) && each_answers(&empty, 7, Err(26)));
 }
 
 #[test]
@@ -99,8 +100,12 @@ fn tails_are_zero(rt: HostRuntime) {
         let mut table = good;
         table[at] = 9;
         // the bytes 0 to 3 of a record are its code, its length and its text
-        let number = if at % 64 < 4 { 0 } else { 26 };
-        assert!(rt; each_answers(&table, 7, number, b"ab"));
+        let expected = if at % 64 < 4 {
+            Ok(b"ab".as_slice())
+        } else {
+            Err(26)
+        };
+        assert!(rt; each_answers(&table, 7, expected));
     }
 }
 
@@ -108,11 +113,11 @@ fn tails_are_zero(rt: HostRuntime) {
 fn the_offices_language_comes_first(rt: HostRuntime) {
     let own = pair(record(1, 4, b"eins"), record(0, 4, b"null"));
     let english = pair(record(1, 3, b"one"), record(2, 3, b"two"));
-    assert!(rt; answers(&own, &english, 1, 0, b"eins") && answers(&english, &own, 1, 0, b"one"));
-    assert!(rt; answers(&own, &english, 2, 0, b"two") && answers(&english, &own, 2, 0, b"two"));
-    assert!(rt; answers(&own, &english, 0, 0, b"null") && answers(&own, &english, 3, 27, b""));
+    assert!(rt; answers(&own, &english, 1, Ok(b"eins")) && answers(&english, &own, 1, Ok(b"one")));
+    assert!(rt; answers(&own, &english, 2, Ok(b"two")) && answers(&english, &own, 2, Ok(b"two")));
+    assert!(rt; answers(&own, &english, 0, Ok(b"null")) && answers(&own, &english, 3, Err(27)));
     let twice = pair(record(4, 5, b"first"), record(4, 6, b"second"));
-    assert!(rt; each_answers(&twice, 4, 0, b"first"));
+    assert!(rt; each_answers(&twice, 4, Ok(b"first")));
 }
 
 #[test]
@@ -120,23 +125,23 @@ fn questions_are_asked_in_their_order(rt: HostRuntime) {
     let good = pair(record(1, 1, b"x"), record(2, 1, b"y"));
     let bad = pair(record(1, 0, b""), record(2, 1, b"y"));
     // 25 of both tables comes before 26 of either, and that before 27
-    assert!(rt; answers(&bad, &good[0..63], 1, 25, b"") && answers(&good[0..63], &bad, 1, 25, b""));
-    assert!(rt; answers(&good, &bad, 1, 26, b"") && answers(&bad, &good, 3, 26, b""));
+    assert!(rt; answers(&bad, &good[0..63], 1, Err(25)) && answers(&good[0..63], &bad, 1, Err(25)));
+    assert!(rt; answers(&good, &bad, 1, Err(26)) && answers(&bad, &good, 3, Err(26)));
     // a line asks 5 first and 28 last
     let part = &good[0..63];
-    assert!(rt; refused_by(16, 1, part, &bad) == 5 && refused_by(15, 1, part, &bad) == 25);
-    assert!(rt; refused_by(15, 1, &good, &bad) == 26 && refused_by(15, 3, &good, &good) == 27);
-    assert!(rt; refused_by(15, 1, &good, &good) == 28);
+    assert!(rt;
+        without_room(16, 1, part, &bad) == Err(5) && without_room(15, 1, part, &bad) == Err(25)
+    );
+    assert!(rt;
+        without_room(15, 1, &good, &bad) == Err(26) && without_room(15, 3, &good, &good) == Err(27)
+    );
+    assert!(rt; without_room(15, 1, &good, &good) == Err(28));
 }
 
-// The number that refuses a line into an output without room.
-fn refused_by(office: u8, code: u8, own: &[u8], english: &[u8]) -> u8 {
+// What a line into an output without room answers.
+fn without_room(office: u8, code: u8, own: &[u8], english: &[u8]) -> Result<usize, u8> {
     let mut out = [0u8; 0];
-    let notice = CounterNotice { office, code };
-    match notice.write_line(Tables { own, english }, &mut out) {
-        Ok(_) => 0,
-        Err(fault) => fault.number(),
-    }
+    numbered(CounterNotice { office, code }.write_line(Tables { own, english }, &mut out))
 }
 
 #[test]
@@ -152,12 +157,9 @@ fn a_line_fits_or_leaves_the_output(rt: HostRuntime) {
     };
     for room in 0..13usize {
         let mut out = [b'.'; 12];
-        let number = match notice.write_line(tables, &mut out[0..room.min(12)]) {
-            Ok(length) => length,
-            Err(fault) => usize::from(fault.number()),
-        };
+        let answer = numbered(notice.write_line(tables, &mut out[0..room.min(12)]));
         let fits = room >= 9;
-        assert_eq!(rt; number, if fits { 9 } else { 28 });
+        assert_eq!(rt; answer, if fits { Ok(9) } else { Err(28) });
         assert_eq!(rt; out, if fits { *b"15 Bring\n..." } else { [b'.'; 12] });
     }
 }
@@ -213,11 +215,8 @@ fn the_longest_line_has_66_bytes(rt: HostRuntime) {
 fn leaves_output(office: u8, code: u8, own: &[u8], number: u8) -> bool {
     let mut out = [b'.'; 12];
     let notice = CounterNotice { office, code };
-    let refused = match notice.write_line(Tables { own, english: &[] }, &mut out) {
-        Ok(_) => 0,
-        Err(fault) => fault.number(),
-    };
-    refused == number && out == [b'.'; 12]
+    let answer = numbered(notice.write_line(Tables { own, english: &[] }, &mut out));
+    answer == Err(number) && out == [b'.'; 12]
 }
 
 #[test]

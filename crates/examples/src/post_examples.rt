@@ -1,8 +1,8 @@
 // Posts over memories of several sizes, for both kinds of word.
+use crate::numbered::numbered;
 use posts::{
     Address, Board, BoardEntry, Entry, Grid, Place, Post, PostView, any_waiting, ever_posted,
 };
-use refusals::Refusal;
 use std::process::Abort;
 use words::{Joining, Knowledge, Offices, TermWord, Word};
 
@@ -13,11 +13,6 @@ fn at(sender: u8, receiver: u8, round: u8) -> Address {
         receiver,
         round,
     }
-}
-
-// What a call answered, with the number of its refusal.
-fn numbered<T, E: Refusal + Drop>(answer: Result<T, E>) -> Result<T, u8> {
-    answer.map_err(|fault| fault.number())
 }
 
 // Both posting and taking are refused by this number.
