@@ -28,6 +28,10 @@ full talk n h = let known = masks talk n h in every n (λ i. every n (bit (slice
 same : (b : Bool) → Decides b (b ≡ true)
 same b = (λ e. e, λ e. e)
 
+told_none : (speaks : ℕ → ℕ → Bool) (known : List ℕ) (i j : ℕ) → bit (told speaks known i 0) j ≡ false
+unfolding told
+told_none speaks known i j = bit-none j
+
 told_more : (speaks : ℕ → ℕ → Bool) (known : List ℕ) (i j s : ℕ) → bit (told speaks known i (suc s)) j ≡ ((speaks s i && bit (slice_index known s) j) || bit (told speaks known i s) j)
 unfolding told
 told_more speaks known i j s =
@@ -42,11 +46,11 @@ Told : (ℕ → ℕ → Bool) → List ℕ → ℕ → ℕ → ℕ → Type 0
 Told speaks known i j k = (s : ℕ) × (s < k) × ((speaks s i ≡ true) × (bit (slice_index known s) j ≡ true))
 
 told_decides : (speaks : ℕ → ℕ → Bool) (known : List ℕ) (i j k : ℕ) → Decides (bit (told speaks known i k) j) (Told speaks known i j k)
-unfolding told Told
+unfolding Told
 told_decides speaks known i j =
     Decides-below_or (λ s. speaks s i && bit (slice_index known s) j) (λ s. (speaks s i ≡ true) × (bit (slice_index known s) j ≡ true)) (λ k. bit (told speaks known i k) j)
     (λ s. Decides-and (speaks s i) (bit (slice_index known s) j) (same (speaks s i)) (same (bit (slice_index known s) j)))
-    (bit-none j) (told_more speaks known i j)
+    (told_none speaks known i j) (told_more speaks known i j)
 
 -- nobody speaks with a number from n up
 abbrev pub Silent : Talk → ℕ → Type 0

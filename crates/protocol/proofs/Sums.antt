@@ -1,5 +1,5 @@
 -- Laws of tests and counts below a number, and of the sums of words. Assumes nothing.
-use Rattle.std.proofs.Common.{◌≡◌, ℕ, zero, suc, ◌<◌, ◌≤◌, Bool, true, false, ◌&&◌, ◌||◌, eqb, ltb, ◌≢◌, ◌⊎◌, Some, None, Option, List, [], ◌∷◌, ◌++◌, sym, refl, ap, ◌∙◌, inl, inr, arith}
+use Rattle.std.proofs.Common.{◌≡◌, ℕ, zero, suc, ◌<◌, ◌≤◌, Bool, true, false, ◌&&◌, ◌||◌, eqb, ltb, ◌≢◌, ◌⊎◌, Some, None, Option, sym, refl, ap, ◌∙◌, inl, inr, arith}
 use lib.Bits.{or_comm, or_self}
 use Rattle.std.proofs.lemmas.Bool.{both_ways, cases_eq, cases_Bool, cond_both, or_cases}
 use Rattle.std.proofs.Math.Bool as bools
@@ -13,6 +13,7 @@ use Rattle.words.specs.Sum.{sum_of}
 use Rattle.words.specs.Terms.{higher}
 use Rattle.words.proofs.Below.{every_decides, some_decides, some_suc}
 use Rattle.words.specs.MasksLemmas.{or_assoc, bit-bit_or, bit-none, some-bit}
+use Rattle.words.proofs.Sums.{sum_append}
 use Rattle.words.proofs.Members.{member-none, member-added}
 use Rattle.protocol.specs.Hearing.{Heard, listed, words, total}
 use Rattle.protocol.specs.History.{count}
@@ -114,17 +115,13 @@ word_or d (Some w) = w
 -- one office more in the sum of what was heard
 module _ {W : Type 0} (nil : W) (join : W → W → W)
     (assoc : (x y z : W) → join (join x y) z ≡ join x (join y z)) (comm : (x y : W) → join x y ≡ join y x) (idem : (x : W) → join x x ≡ x) (unit : (x : W) → join nil x ≡ x) where
-  sum_append : (xs ys : List W) → sum_of nil join (xs ++ ys) ≡ join (sum_of nil join xs) (sum_of nil join ys)
-  sum_append [] ys = sym (unit _)
-  sum_append (x ∷ xs) ys = ap (join x) (sum_append xs ys) ∙ sym (assoc x _ _)
-
   sum_listed : (x : Option W) → sum_of nil join (listed x) ≡ word_or nil x
   sum_listed None = refl
   sum_listed (Some w) = comm w nil ∙ unit w
 
   pub sum_next : (n : ℕ) (q : Heard W) → sum_of nil join (words (suc n) q) ≡ join (sum_of nil join (words n q)) (word_or nil (q n))
   unfolding words
-  sum_next n q = sum_append (words n q) (listed (q n)) ∙ ap (join (sum_of nil join (words n q))) (sum_listed (q n))
+  sum_next n q = sum_append nil join assoc comm idem unit (words n q) (listed (q n)) ∙ ap (join (sum_of nil join (words n q))) (sum_listed (q n))
 
 -- the sum of the termination words that were heard
 abbrev pub sum_term : ℕ → Heard TermWord → TermWord

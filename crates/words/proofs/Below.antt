@@ -1,5 +1,5 @@
 -- Tests of the numbers below another: what they tell, and their steps. Assumes nothing.
-use Rattle.std.proofs.Common.{◌≡◌, ℕ, zero, suc, ◌+◌, ◌<◌, Bool, true, false, ◌&&◌, ◌||◌, Decides, refl, ap, ◌∙◌, sym, add-zero, zero-add, arith}
+use Rattle.std.proofs.Common.{◌≡◌, ℕ, zero, suc, ◌+◌, ◌<◌, Bool, true, false, ◌&&◌, ◌||◌, Decides, refl, ap, ◌∙◌, sym, add-zero, add-one, zero-add, arith}
 use Rattle.std.specs.List.{list_all, list_any, range_with_len}
 use Rattle.std.proofs.lemmas.Bool.Decides.{Decides-below_and, Decides-below_or}
 use Rattle.words.specs.Below.{every, some}
@@ -45,3 +45,9 @@ every_decides p = Decides-below_and p (λ i. p i ≡ true) (λ n. every n p) (λ
 pub some_decides : (p : ℕ → Bool) (n : ℕ) → Decides (some n p) ((i : ℕ) × (i < n) × (p i ≡ true))
 unfolding some
 some_decides p = Decides-below_or p (λ i. p i ≡ true) (λ n. some n p) (λ i. (λ e. e, λ e. e)) refl (some_suc p)
+
+pub every_more : (p : ℕ → Bool) (n : ℕ) (a b : Bool) → a ≡ p n → b ≡ every n p → (a && b) ≡ every (n + 1) p
+every_more p n a b here before = rw (here, before, add-one, every_suc)
+
+pub some_more : (p : ℕ → Bool) (n : ℕ) (a b : Bool) → a ≡ p n → b ≡ some n p → (a || b) ≡ some (n + 1) p
+some_more p n a b here before = rw (here, before, add-one, some_suc)

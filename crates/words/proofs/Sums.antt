@@ -1,13 +1,24 @@
 -- What the laws of a join give of a sum. Assumes nothing.
-use Rattle.std.proofs.Common.{◌≡◌, List, [], ◌∷◌, sym, ap, ◌∙◌, subst}
+use Rattle.std.proofs.Common.{◌≡◌, ℕ, ◌+◌, ◌<◌, List, [], ◌∷◌, ◌++◌, length, get_or, take, sym, ap, ◌∙◌, subst}
 use Rattle.std.specs.List.{AllByRecursion, fold}
 use Rattle.std.specs.List.Sorted.{IsPermutation}
+use Rattle.std.proofs.lemmas.List.{take_more}
 use Rattle.std.proofs.ByRecursion.{All-weaker, all_shuffled}
 use Rattle.std.proofs.lemmas.List.Sorted.{IsPermutation-sym}
 use Rattle.words.specs.Sum.{sum_of, LeastBound, AnyOrder}
 
 module _ {W : Type 0} (nil : W) (join : W → W → W)
     (assoc : (x y z : W) → join (join x y) z ≡ join x (join y z)) (comm : (x y : W) → join x y ≡ join y x) (idem : (x : W) → join x x ≡ x) (unit : (x : W) → join nil x ≡ x) where
+  pub sum_append : (xs ys : List W) → sum_of nil join (xs ++ ys) ≡ join (sum_of nil join xs) (sum_of nil join ys)
+  sum_append [] ys = sym (unit _)
+  sum_append (x ∷ xs) ys = ap (join x) (sum_append xs ys) ∙ sym (assoc x _ _)
+
+  -- one word more
+  pub sum_more : (xs : List W) (i : ℕ) (x : W) → i < length xs → x ≡ get_or xs i x → join (sum_of nil join (take i xs)) x ≡ sum_of nil join (take (i + 1) xs)
+  sum_more xs i x within read =
+      let pushed : take (i + 1) xs ≡ take i xs ++ (x ∷ []) = take_more xs i x within ∙ ap (λ y. take i xs ++ (y ∷ [])) (sym read) in
+      sym (ap (sum_of nil join) pushed ∙ sum_append (take i xs) (x ∷ []) ∙ ap (join _) (comm x nil ∙ unit x))
+
   -- words joined one after another to what was joined before
   folded_from : (xs : List W) (a : W) → fold join a xs ≡ join a (sum_of nil join xs)
   folded_from [] a = sym (comm a nil ∙ unit a)
