@@ -128,30 +128,27 @@ fn one_yes() -> Knowledge {
     knowledge
 }
 
-#[test]
-fn posts_for_termination_words(rt: HostRuntime) {
+// Grids and boards over memories of these sizes, for words of one kind.
+fn tried_in_memories<W: Word + Copy>(rt: &impl Abort, a: W, b: W) {
     for (size, grid_reach, board_reach) in SIZES {
         // making a post empties its memory
-        let mut places = [Place::Waiting(N); 9000];
+        let mut places = [Place::Waiting(b); 9000];
         let mut grid = Grid::new(&mut places[0..size.min(9000)]);
-        tried(&rt, &mut grid, grid_reach, A, N);
+        tried(rt, &mut grid, grid_reach, a, b);
         let mut entries = [BoardEntry::blank(); 9000];
         let mut board = Board::new(&mut entries[0..size.min(9000)]);
-        tried(&rt, &mut board, board_reach, A, N);
+        tried(rt, &mut board, board_reach, a, b);
     }
 }
 
 #[test]
+fn posts_for_termination_words(rt: HostRuntime) {
+    tried_in_memories(&rt, A, N);
+}
+
+#[test]
 fn posts_for_knowledge(rt: HostRuntime) {
-    let empty = Knowledge::empty();
-    for (size, grid_reach, board_reach) in SIZES {
-        let mut places = [Place::Waiting(empty); 9000];
-        let mut grid = Grid::new(&mut places[0..size.min(9000)]);
-        tried(&rt, &mut grid, grid_reach, one_yes(), empty);
-        let mut entries = [BoardEntry::blank(); 9000];
-        let mut board = Board::new(&mut entries[0..size.min(9000)]);
-        tried(&rt, &mut board, board_reach, one_yes(), empty);
-    }
+    tried_in_memories(&rt, one_yes(), Knowledge::empty());
 }
 
 #[test]
