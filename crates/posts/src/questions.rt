@@ -1,9 +1,12 @@
 // What is asked of any post.
-ghost use Rattle.std.specs.Prelude.{◌≡◌, Decides};
+ghost use Rattle.std.specs.Prelude.{◌≡◌, ◌+◌, Bool, Decides};
+ghost use Rattle.words.specs.Below.{some};
+ghost use Rattle.posts.specs.declared.place.Place.{Place};
 ghost use Rattle.posts.specs.Places.{consistent, Consistent, WaitsFrom, Used};
 ghost use Rattle.posts.specs.Tests.{some_waits, sent, sent_to};
 
 use crate::address::Address;
+use crate::place::Place;
 use crate::post::PostView;
 use words::Word;
 
@@ -43,20 +46,32 @@ pub fn ever_posted<W: Word + Copy, P: PostView<W>>(post: &P) -> bool
     sent_by_any(post)
 }
 
-// Goes through the rounds for a word that waits.
+// Whether in some round the place from one office to another passes the test.
 #[tactic(auto, unfolding(words::specs::Below::some))]
+fn in_some_round<W: Word + Copy, P: PostView<W>, T: Fn(Place<W>) -> bool>(
+    post: &P,
+    sender: u8,
+    receiver: u8,
+    test: T,
+) -> bool
+    requires { T.IsAlwaysCallable test }
+    ensures { (p : Place W → Bool) → ((x : Place W) (b : Bool) → T.post test x b → b ≡ p x) → result ≡ some (P.PostView.reach post.now) (λ j. p (P.PostView.places post.now sender receiver (j + 1))) }
+{
+    (0..post.reach()).any(|before| {
+        test(post.place(Address {
+            sender,
+            receiver,
+            round: before + 1,
+        }))
+    })
+}
+
+// Goes through the rounds for a word that waits.
 fn waits_between<W: Word + Copy, P: PostView<W>>(post: &P, sender: u8, receiver: u8) -> bool
     ensures value { result ≡ some_waits (P.PostView.places post.now) (P.PostView.reach post.now) sender receiver }
     ensures rule { Decides result (WaitsFrom (P.PostView.places post.now) sender receiver) }
 {
-    (0..post.reach()).any(|before| {
-        post.place(Address {
-            sender,
-            receiver,
-            round: before + 1,
-        })
-        .is_waiting()
-    })
+    in_some_round(post, sender, receiver, |place: Place<W>| place.is_waiting())
 }
 
 // Goes through the senders for a word that was posted.
@@ -76,17 +91,8 @@ fn sent_by<W: Word + Copy, P: PostView<W>>(post: &P, sender: u8) -> bool
 }
 
 // Whether any word was posted from one office to another.
-#[tactic(auto, unfolding(words::specs::Below::some))]
 fn sent_between<W: Word + Copy, P: PostView<W>>(post: &P, sender: u8, receiver: u8) -> bool
     ensures { result ≡ sent_to (P.PostView.places post.now) (P.PostView.reach post.now) sender receiver }
 {
-    (0..post.reach()).any(|before| {
-        !post
-            .place(Address {
-                sender,
-                receiver,
-                round: before + 1,
-            })
-            .is_empty()
-    })
+    in_some_round(post, sender, receiver, |place: Place<W>| !place.is_empty())
 }
