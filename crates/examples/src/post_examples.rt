@@ -128,27 +128,43 @@ fn one_yes() -> Knowledge {
     knowledge
 }
 
-// Grids and boards over memories of these sizes, for words of one kind.
-fn tried_in_memories<W: Word + Copy>(rt: &impl Abort, a: W, b: W) {
+// A grid and a board over these memories, with the reach that each has. Making a post empties its memory.
+fn tried_in<W: Word + Copy>(
+    rt: &impl Abort,
+    (places, grid_reach): (&mut [Place<W>], u8),
+    (entries, board_reach): (&mut [BoardEntry<W>], u8),
+    a: W,
+    b: W,
+) {
+    let mut grid = Grid::new(places);
+    tried(rt, &mut grid, grid_reach, a, b);
+    let mut board = Board::new(entries);
+    tried(rt, &mut board, board_reach, a, b);
+}
+
+// The memories are made in each test, of its own kind of word: that an array of any kind fits into memory
+// can't be proved.
+#[test]
+fn posts_for_termination_words(rt: HostRuntime) {
     for (size, grid_reach, board_reach) in SIZES {
-        // making a post empties its memory
-        let mut places = [Place::Waiting(b); 9000];
-        let mut grid = Grid::new(&mut places[0..size.min(9000)]);
-        tried(rt, &mut grid, grid_reach, a, b);
+        let mut places = [Place::Waiting(N); 9000];
         let mut entries = [BoardEntry::blank(); 9000];
-        let mut board = Board::new(&mut entries[0..size.min(9000)]);
-        tried(rt, &mut board, board_reach, a, b);
+        let grid = (&mut places[0..size.min(9000)], grid_reach);
+        let board = (&mut entries[0..size.min(9000)], board_reach);
+        tried_in(&rt, grid, board, A, N);
     }
 }
 
 #[test]
-fn posts_for_termination_words(rt: HostRuntime) {
-    tried_in_memories(&rt, A, N);
-}
-
-#[test]
 fn posts_for_knowledge(rt: HostRuntime) {
-    tried_in_memories(&rt, one_yes(), Knowledge::empty());
+    let empty = Knowledge::empty();
+    for (size, grid_reach, board_reach) in SIZES {
+        let mut places = [Place::Waiting(empty); 9000];
+        let mut entries = [BoardEntry::blank(); 9000];
+        let grid = (&mut places[0..size.min(9000)], grid_reach);
+        let board = (&mut entries[0..size.min(9000)], board_reach);
+        tried_in(&rt, grid, board, one_yes(), empty);
+    }
 }
 
 #[test]

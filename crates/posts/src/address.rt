@@ -30,7 +30,8 @@ impl Address {
     }
 }
 
-// An address that a post of this reach serves: two offices below 16, and a round within the reach.
+// An address that a post of this reach serves: two offices below 16, and a round within the reach. That the
+// reach is the post's own ties two values, so it stands in the clauses of what takes both.
 #[derive(Clone, Copy, Debug, PartialEq, Eq)]
 pub(crate) struct Served {
     pub(crate) at: Address,
