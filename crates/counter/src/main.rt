@@ -7,47 +7,25 @@ use notice::{CounterNotice, LONGEST_LINE, Tables};
 use std::alloc::AllocError;
 use std::io::{Read, Write};
 use std::process::ExitCode;
-use std::{env, fmt, fs, io};
+use std::{env, fs, io};
+use thiserror::Error;
 
 // One byte more than the largest table has, so that a larger file is still seen to be too large.
 const TABLE_READ: u64 = 16_385;
 
 // Why the program can't say anything about a notice.
-#[derive(Debug, Drop)]
+#[derive(Debug, Drop, Error)]
 enum CounterError {
+    #[error("usage: counter OFFICE CODE TABLE ENGLISH")]
     Usage,
+    #[error("the {what} must be a number from 0 to 255, not '{text}'")]
     NoNumber { what: &'static str, text: String },
+    #[error("the table '{name}' can't be read: {cause}")]
     NoTable { name: String, cause: io::Error },
-    Memory(AllocError),
-    Io(io::Error),
-}
-
-impl fmt::Display for CounterError {
-    fn fmt<W: fmt::Write>(&self, f: &mut fmt::Formatter<W>) -> fmt::Result {
-        match self {
-            CounterError::Usage => write!(f, "usage: counter OFFICE CODE TABLE ENGLISH"),
-            CounterError::NoNumber { what, text } => {
-                write!(f, "the {what} must be a number from 0 to 255, not '{text}'")
-            }
-            CounterError::NoTable { name, cause } => {
-                write!(f, "the table '{name}' can't be read: {cause}")
-            }
-            CounterError::Memory(cause) => write!(f, "{cause}"),
-            CounterError::Io(cause) => write!(f, "{cause}"),
-        }
-    }
-}
-
-impl From<AllocError> for CounterError {
-    fn from(cause: AllocError) -> CounterError {
-        CounterError::Memory(cause)
-    }
-}
-
-impl From<io::Error> for CounterError {
-    fn from(cause: io::Error) -> CounterError {
-        CounterError::Io(cause)
-    }
+    #[error(transparent)]
+    Memory(#[from] AllocError),
+    #[error(transparent)]
+    Io(#[from] io::Error),
 }
 
 // An argument that is a number from 0 to 255.

@@ -10,7 +10,7 @@ use Rattle.posts.specs.declared.place.Place.TheVariants.{Empty, Waiting, Taken}
 use Rattle.posts.specs.declared.address.Address.{Address}
 use Rattle.posts.specs.declared.fault.PostFault.{PostFault}
 use Rattle.posts.specs.Addresses.{Refused}
-use Rattle.posts.specs.Layouts.{Layout, Sound, reach_of, index_of, place_index, places_of}
+use Rattle.posts.specs.Layouts.{Layout, Placed, Sound, reach_of, index_of, place_index, places_of}
 use Rattle.posts.specs.Places.{Consistent, Holds, legal, within, put, vacant, no_words}
 
 -- what the tests of a place tell
@@ -26,20 +26,20 @@ lawful_parts s r n k h = (grind (arith, nat_tests), grind (arith, nat_tests))
 lawful : (s r n k : ℕ) → legal s r ≡ true → within n k ≡ true → (legal s r && within n k) ≡ true
 lawful s r n k pair round = grind (arith, nat_tests)
 
-module _ {E W : Type 0} (layout : Layout E W) (sound : Sound layout) where
+module _ {E W : Type 0} (layout : Layout E W) (placed : Placed layout) where
   -- two places with one entry have one sender, one round and one slot
   one_entry : (s r k s' r' k' : ℕ) → legal s r ≡ true → legal s' r' ≡ true → 0 < k → 0 < k' → place_index layout s r k ≡ place_index layout s' r' k' → (s ≡ s') × (k ≡ k') × (layout.slot s r ≡ layout.slot s' r')
   one_entry s r k s' r' k' pair pair' from from' same =
-      let low = sound.fits s r pair in
-      let low' = sound.fits s' r' pair' in
+      let low = placed.fits s r pair in
+      let low' = placed.fits s' r' pair' in
       let rounds : k - 1 ≡ k' - 1 = sym (digits_div (k - 1) low) ∙ ap (λ i. i / layout.size) same ∙ digits_div (k' - 1) low' in
       let slots : layout.slot s r ≡ layout.slot s' r' = sym (digits_mod (k - 1) low) ∙ ap (λ i. i % layout.size) same ∙ digits_mod (k' - 1) low' in
-      (sound.sender s r s' r' pair pair' slots, omega arith, slots)
+      (placed.sender s r s' r' pair pair' slots, omega arith, slots)
 
   module _ (memory : List E) (s r k : ℕ) (pair : legal s r ≡ true) (round : within (reach_of layout memory) k ≡ true) where
     pub within_memory : place_index layout s r k < length memory
     within_memory =
-        let low = sound.fits s r pair in
+        let low = placed.fits s r pair in
         let q : k - 1 < length memory / layout.size = grind (arith, nat_tests) in
         omega (arith, digits_lt q low, div-mul-le_self (length memory) layout.size)
 
@@ -93,31 +93,6 @@ module _ {E W : Type 0} (layout : Layout E W) (sound : Sound layout) where
       pub places_set : places_of layout (set memory (place_index layout s r k) e) ≡ put (places_of layout memory) s r k x
       places_set i s' r' k' = set_at s' r' k' i
 
-  -- the entry of a place is read, and written with the word posted or taken
-  module _ (memory : List E) (s r k : ℕ) (pair : legal s r ≡ true) (round : within (reach_of layout memory) k ≡ true) where
-    abbrev entry : E
-    entry = get_or memory (place_index layout s r k) layout.blank
-
-    low : r < 16
-    low = grind (arith, nat_tests)
-
-    -- what the entry says of the receivers that share it
-    said : (r' : ℕ) → legal s r' ≡ true → layout.slot s r' ≡ layout.slot s r → places_of layout memory s r' k ≡ layout.says entry r'
-    said r' pair' slots = says_at memory s r' k pair' round ∙ ap (λ z. layout.says (get_or memory (index_of layout.size z k) layout.blank) r') slots
-
-    written : (e : E) (x : Place W) → layout.says e r ≡ x → ((r' : ℕ) → legal s r' ≡ true → (r' ≡ r → ⊥) → layout.slot s r' ≡ layout.slot s r → layout.says e r' ≡ layout.says entry r') → (new : E) → new ≡ e → places_of layout (set memory (place_index layout s r k) new) ≡ put (places_of layout memory) s r k x
-    written e x mine others new made = ap (λ y. places_of layout (set memory (place_index layout s r k) y)) made ∙ places_set memory s r k pair round e x mine others
-
-    pub stored_posted : (w : W) → Consistent (places_of layout memory) s k w → vacant (places_of layout memory s r k) ≡ true → (new : E) → new ≡ layout.posted entry r w → places_of layout (set memory (place_index layout s r k) new) ≡ put (places_of layout memory) s r k (Waiting w)
-    stored_posted w agree free =
-        written (layout.posted entry r w) (Waiting w) (sound.waits entry r w low (sym (ap vacant (said r pair refl)) ∙ free))
-        (λ r' pair' other slots. sound.posts s r r' pair pair' other slots entry w (λ v h. agree r' v (subst (λ x. Holds x v) (sym (said r' pair' slots)) h)))
-
-    pub stored_taken : (w : W) → places_of layout memory s r k ≡ Waiting w → (new : E) → new ≡ layout.taken entry r w → places_of layout (set memory (place_index layout s r k) new) ≡ put (places_of layout memory) s r k (Taken w)
-    stored_taken w here =
-        written (layout.taken entry r w) (Taken w) (sound.marked entry r w low (sym (said r pair refl) ∙ here))
-        (λ r' pair' other slots. sound.takes s r r' pair pair' other slots entry w)
-
   -- the place at an address, as it is read from the entry of the same address once it was asked for
   pub place_read : (memory : List E) (at b : Address) (far reach i : ℕ) (e : E) (x : Place W) → b ≡ at → far ≡ reach → reach ≡ reach_of layout memory → legal b.sender b.receiver ≡ true → within far b.round ≡ true → i ≡ place_index layout b.sender b.receiver b.round → e ≡ get_or memory i e → x ≡ layout.says e at.receiver → x ≡ places_of layout memory at.sender at.receiver at.round
   place_read memory at b far reach i e x same asked is pair round place read says =
@@ -140,8 +115,33 @@ module _ {E W : Type 0} (layout : Layout E W) (sound : Sound layout) where
       none : (s r k : ℕ) → places_of layout memory' s r k ≡ Empty
       none s r k =
           let b = legal s r && within (reach_of layout memory') k in
-          ap (λ y. cond b y Empty) (ap (λ y. layout.says y r) (ap (λ m. get_or m (place_index layout s r k) layout.blank) is ∙ blanks (place_index layout s r k)) ∙ sound.silent r) ∙
+          ap (λ y. cond b y Empty) (ap (λ y. layout.says y r) (ap (λ m. get_or m (place_index layout s r k) layout.blank) is ∙ blanks (place_index layout s r k)) ∙ placed.silent r) ∙
           ⊎_elim (λ t. cond-true b Empty Empty t) (λ t. cond-false b Empty Empty t) (cases_Bool b)
+
+-- the entry of a place is read, and written with the word posted or taken
+module _ {E W : Type 0} (layout : Layout E W) (sound : Sound layout) (memory : List E) (s r k : ℕ) (pair : legal s r ≡ true) (round : within (reach_of layout memory) k ≡ true) where
+  abbrev entry : E
+  entry = get_or memory (place_index layout s r k) layout.blank
+
+  low : r < 16
+  low = grind (arith, nat_tests)
+
+  -- what the entry says of the receivers that share it
+  said : (r' : ℕ) → legal s r' ≡ true → layout.slot s r' ≡ layout.slot s r → places_of layout memory s r' k ≡ layout.says entry r'
+  said r' pair' slots = says_at layout sound.placed memory s r' k pair' round ∙ ap (λ z. layout.says (get_or memory (index_of layout.size z k) layout.blank) r') slots
+
+  written : (e : E) (x : Place W) → layout.says e r ≡ x → ((r' : ℕ) → legal s r' ≡ true → (r' ≡ r → ⊥) → layout.slot s r' ≡ layout.slot s r → layout.says e r' ≡ layout.says entry r') → (new : E) → new ≡ e → places_of layout (set memory (place_index layout s r k) new) ≡ put (places_of layout memory) s r k x
+  written e x mine others new made = ap (λ y. places_of layout (set memory (place_index layout s r k) y)) made ∙ places_set layout sound.placed memory s r k pair round e x mine others
+
+  pub stored_posted : (w : W) → Consistent (places_of layout memory) s k w → vacant (places_of layout memory s r k) ≡ true → (new : E) → new ≡ layout.posted entry r w → places_of layout (set memory (place_index layout s r k) new) ≡ put (places_of layout memory) s r k (Waiting w)
+  stored_posted w agree free =
+      written (layout.posted entry r w) (Waiting w) (sound.waits entry r w low (sym (ap vacant (said r pair refl)) ∙ free))
+      (λ r' pair' other slots. sound.posts s r r' pair pair' other slots entry w (λ v h. agree r' v (subst (λ x. Holds x v) (sym (said r' pair' slots)) h)))
+
+  pub stored_taken : (w : W) → places_of layout memory s r k ≡ Waiting w → (new : E) → new ≡ layout.taken entry r w → places_of layout (set memory (place_index layout s r k) new) ≡ put (places_of layout memory) s r k (Taken w)
+  stored_taken w here =
+      written (layout.taken entry r w) (Taken w) (sound.marked entry r w low (sym (said r pair refl) ∙ here))
+      (λ r' pair' other slots. sound.takes s r r' pair pair' other slots entry w)
 
 -- an address that is refused lies outside
 pub refused_outside : (s r k reach n : ℕ) (e : PostFault) → reach ≡ n → Refused s r k reach e → (legal s r && within n k) ≡ false

@@ -48,9 +48,11 @@ module _ {W : Type 0} (w : W) (r : ℕ) where
 
 pub board_sound : {W : Type 0} → Sound (board {W = W})
 board_sound = record {
-  fits = λ s r pair. grind (arith, nat_tests);
-  sender = λ s r s' r' pair pair' same. same;
-  silent = λ r. refl;
+  placed = record {
+    fits = λ s r pair. grind (arith, nat_tests);
+    sender = λ s r s' r' pair pair' same. same;
+    silent = λ r. refl;
+  };
   waits = λ e r w low free. posted_mine w r low e.word e.addressed e.taken free;
   marked = λ e r w low here. took_mine w r low e.word e.addressed e.taken here;
   posts = λ s r r' pair pair' other same e w all. posted_others w r r' other e.word e.addressed e.taken all;

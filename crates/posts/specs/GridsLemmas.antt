@@ -7,9 +7,11 @@ use Rattle.posts.specs.Layouts.{Sound}
 
 pub grid_sound : {W : Type 0} → Sound (grid {W = W})
 grid_sound = record {
-  fits = λ s r pair. grind (arith, nat_tests);
-  sender = λ s r s' r' pair pair' same. grind (arith, nat_tests);
-  silent = λ r. refl;
+  placed = record {
+    fits = λ s r pair. grind (arith, nat_tests);
+    sender = λ s r s' r' pair pair' same. grind (arith, nat_tests);
+    silent = λ r. refl;
+  };
   waits = λ e r w low free. refl;
   marked = λ e r w low here. refl;
   posts = λ s r r' pair pair' other same e w all. absurd (other (omega arith));

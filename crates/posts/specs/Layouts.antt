@@ -15,11 +15,15 @@ pub record Layout (E W : Type 0) : Type 0 where
   pub posted : E → ℕ → W → E
   pub taken : E → ℕ → W → E
 
--- what holds of every layout: each legal pair has a slot of the round, a slot has one sender, and the blank entry says nothing; a word that is posted to a receiver of whom the entry says nothing waits for it, one that waits can be taken, and of another receiver in the same slot the entry says what it said, as long as the word that it says is the one posted
-pub record Sound {E W : Type 0} (layout : Layout E W) : Type 0 where
+-- the places of a layout do not mix: each legal pair has a slot of the round, a slot has one sender, and the blank entry says nothing
+pub record Placed {E W : Type 0} (layout : Layout E W) : Type 0 where
   pub fits : (s r : ℕ) → legal s r ≡ true → layout.slot s r < layout.size
   pub sender : (s r s' r' : ℕ) → legal s r ≡ true → legal s' r' ≡ true → layout.slot s r ≡ layout.slot s' r' → s ≡ s'
   pub silent : (r : ℕ) → layout.says layout.blank r ≡ Empty
+
+-- what holds of every kind of entry: its places do not mix; a word that is posted to a receiver of whom the entry says nothing waits for it, one that waits can be taken, and of another receiver in the same slot the entry says what it said, as long as the word that it says is the one posted
+pub record Sound {E W : Type 0} (layout : Layout E W) : Type 0 where
+  pub placed : Placed layout
   pub waits : (e : E) (r : ℕ) (w : W) → r < 16 → vacant (layout.says e r) ≡ true → layout.says (layout.posted e r w) r ≡ Waiting w
   pub marked : (e : E) (r : ℕ) (w : W) → r < 16 → layout.says e r ≡ Waiting w → layout.says (layout.taken e r w) r ≡ Taken w
   pub posts : (s r r' : ℕ) → legal s r ≡ true → legal s r' ≡ true → (r' ≡ r → ⊥) → layout.slot s r' ≡ layout.slot s r → (e : E) (w : W) → ((v : W) → Holds (layout.says e r') v → v ≡ w) → layout.says (layout.posted e r w) r' ≡ layout.says e r'

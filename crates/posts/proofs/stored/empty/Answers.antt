@@ -15,5 +15,5 @@ returns g c =
     let layout = g.E.Entry.layout in
     let end : l.entry-index ≡ length c.args.memory.now = omega arith in
     let blanks : l.memory ≡ replicate (length c.args.memory.now) layout.blank = sym (take_all l.entry-index l.memory (omega arith)) ∙ l.invariant ∙ ap (λ n. replicate n layout.blank) end in
-    let done = cleared layout g.met.E.Entry.sound c.args.memory.now l.memory blanks in
+    let done = cleared layout g.met.E.Entry.sound.placed c.args.memory.now l.memory blanks in
     record { places = done.1; reach = done.0; memory = blanks }

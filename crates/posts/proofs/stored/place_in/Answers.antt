@@ -6,7 +6,7 @@ use Rattle.posts.proofs.stored.place_in.Goals as goal
 pub returns-in-Ok : goal.returns-in-Ok
 returns-in-Ok g c =
     let p = c.in-Ok.place in
-    place_read g.E.Entry.layout g.met.E.Entry.sound c.args.memory.now c.args.at p.at p.reach c.rounds_of.result c.index_of.result c.index-memory-index_of.result c.says.result c.in-Ok.ensures.0 c.in-Ok.ensures.1 c.rounds_of.ensures p.pair p.round c.index_of.ensures.is c.index-memory-index_of.is c.says.ensures
+    place_read g.E.Entry.layout g.met.E.Entry.sound.placed c.args.memory.now c.args.at p.at p.reach c.rounds_of.result c.index_of.result c.index-memory-index_of.result c.says.result c.in-Ok.ensures.0 c.in-Ok.ensures.1 c.rounds_of.ensures p.pair p.round c.index_of.ensures.is c.index-memory-index_of.is c.says.ensures
 
 pub returns-in-Err : goal.returns-in-Err
 returns-in-Err g c =
