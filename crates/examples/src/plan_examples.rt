@@ -3,7 +3,7 @@ use plans::{Cube, Mesh, NumberedPlan, Plan, Star, Turn, UnknownPlan, plan_number
 use std::process::Abort;
 use words::Offices;
 
-// Some numbers of offices.
+// Some numbers of offices, the same for all plans.
 const SIZES: [u8; 11] = [0, 1, 2, 3, 4, 6, 8, 15, 16, 17, 255];
 
 // The plan has these rounds for these numbers of offices.

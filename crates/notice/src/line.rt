@@ -20,7 +20,8 @@ pub struct CounterNotice {
 }
 
 impl CounterNotice {
-    // Writes the notice line at the front of the output, and answers its length.
+    // Writes the notice line at the front of the output, and answers its length: the output is lent, since
+    // no heap is used.
     #[tactic(auto, using(crate::proofs::Written::written), unfolding(crate::specs::Lines::line_questions))]
     pub fn write_line(self, tables: Tables, out: &mut [u8]) -> Result<usize, NoticeFault>
         ensures { Written self.office self.code tables.entry.own.now tables.entry.english.now out.old out.new result }
@@ -50,7 +51,7 @@ impl CounterNotice {
     }
 }
 
-// Writes the line over the front of the output, where that has room, and gives its length.
+// Writes the line over the front of the lent output, where that has room, and gives its length.
 fn put_line(office: u8, text: &[u8], out: &mut [u8]) -> Option<usize>
     ensures { PutOver (notice_line office text.now) out.old out.new result }
 {

@@ -9,7 +9,7 @@ use crate::turn::Turn;
 // A plan (in the field's terms, a communication topology and its schedule): for each number n of offices, the
 // rounds that it has and who speaks to whom in each. After the last round each office knows of all.
 pub trait Plan {
-    // The rounds for n offices, 1 to 16; 0 where the plan does not serve n.
+    // The rounds for n offices, 1 to 16; 0 where the plan does not serve n, which is how many it has then.
     ghost rounds: { Self → ℕ → ℕ };
 
     // Whom the plan names: by the number of offices, the round, the speaker and the listener.

@@ -28,6 +28,7 @@ impl<W: Word + Copy> Entry for Place<W> {
         Place::Empty
     }
 
+    // For each sender the sixteen receivers.
     fn index(sender: u8, receiver: u8) -> usize {
         usize::from(sender) * 16 + usize::from(receiver)
     }

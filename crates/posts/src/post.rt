@@ -29,7 +29,7 @@ pub trait PostView<W: Word + Copy> {
 }
 
 // A post, for words of any kind (in the field's terms, mailboxes: one for each sender, receiver and
-// round).
+// round). That the reach stays is said by each call that changes a post: it is a promise of the call.
 pub trait Post<W: Word + Copy>: PostView<W> {
     // Fills an empty place with the word, which then waits there.
     fn post(&mut self, at: Address, word: W) -> Result<(), PostFault>

@@ -31,7 +31,8 @@ pub(crate) fn agrees_in<W: Word + Copy, P: PostView<W>>(
     })
 }
 
-// Whether any word waits from one office for another.
+// Whether any word waits from one office for another. (Its proof is written by hand, below, so that a bug
+// planted here is refused here.)
 pub fn any_waiting<W: Word + Copy, P: PostView<W>>(post: &P, sender: u8, receiver: u8) -> bool
     ensures value { result ≡ some_waits (P.PostView.places post.now) (P.PostView.reach post.now) sender receiver }
     ensures rule { Decides result (WaitsFrom (P.PostView.places post.now) sender receiver) }
@@ -39,14 +40,15 @@ pub fn any_waiting<W: Word + Copy, P: PostView<W>>(post: &P, sender: u8, receive
     waits_between(post, sender, receiver)
 }
 
-// Whether any word was ever posted.
+// Whether any word was ever posted. (The same holds of its proof.)
 pub fn ever_posted<W: Word + Copy, P: PostView<W>>(post: &P) -> bool
     ensures { Decides result (Used (P.PostView.places post.now)) }
 {
     sent_by_any(post)
 }
 
-// Whether in some round the place from one office to another passes the test.
+// Whether in some round the place from one office to another passes the test. The rounds go from 1 to the
+// reach; the library has no lemma on what a chain over `1..=n` yields.
 #[tactic(auto, unfolding(words::specs::Below::some))]
 fn in_some_round<W: Word + Copy, P: PostView<W>, T: Fn(Place<W>) -> bool>(
     post: &P,

@@ -4,8 +4,8 @@
 // are offices of the release.
 #[derive(Clone, Copy, Debug, PartialEq, Eq)]
 pub enum Call {
-    // votes yes (1) or no (0); a number, not a truth value: by a rule of the project a call may carry
-    // any number, and is asked whether it is 0 or 1
+    // votes yes (1) or no (0); a number, not a truth value, since a call may carry any numbers and is asked
+    // whether its vote is 0 or 1
     Vote { office: u8, vote: u8 },
     // posts its word of its phase and round to the other (in the field's terms, sends a message)
     Speak { office: u8, other: u8 },
