@@ -46,6 +46,7 @@ module _ {W : Type 0} (w : W) (r : ℕ) where
     took_others : (e : BoardEntry W) → entry_says (entry_taken e r) r' ≡ entry_says e r'
     took_others e = ap (λ b. place_by e.word b (member e.addressed r')) (added_other e.taken r r' other)
 
+-- the board is sound
 pub board_sound : {W : Type 0} → Sound (board {W = W})
 board_sound = record {
   placed = record {

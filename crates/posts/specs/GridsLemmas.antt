@@ -5,6 +5,7 @@ use Rattle.std.proofs.lemmas.Bool.Decides.{nat_tests}
 use Rattle.posts.specs.Grids.{grid}
 use Rattle.posts.specs.Layouts.{Sound}
 
+-- the grid is sound
 pub grid_sound : {W : Type 0} → Sound (grid {W = W})
 grid_sound = record {
   placed = record {

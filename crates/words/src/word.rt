@@ -1,6 +1,5 @@
 // Words of any kind, words that can be joined, and the sum of a list of them.
 ghost use Rattle.std.specs.Prelude.{◌≡◌, Decides};
-ghost use Rattle.std.specs.List.{fold};
 ghost use Rattle.words.specs.Sum.{sum_of, LeastBound, AnyOrder};
 
 // A kind of word (in the field's terms, a kind of message): any two can be told equal or different.
@@ -37,7 +36,8 @@ pub trait Joining: Word + Sized {
     ghost unit: { (x : Self) → join nil x ≡ x };
 }
 
-// The sum of the words, each joined to the empty word: the same in any order.
+// The sum of the words, each joined to the empty word: the same in any order. (Its proof is written by hand,
+// below, so that a bug planted here is refused here.)
 pub fn sum<W: Joining + Copy>(words: &[W]) -> W
     ensures value { result ≡ sum_of W.Joining.nil W.Joining.join words.now }
     ensures bound { LeastBound W.Joining.join words.now result }
@@ -46,9 +46,11 @@ pub fn sum<W: Joining + Copy>(words: &[W]) -> W
     folded(words)
 }
 
-// The words joined to the empty word one after another, from the first on.
+// Joins the words to the empty word, one after another.
 fn folded<W: Joining + Copy>(words: &[W]) -> W
-    ensures { result ≡ fold W.Joining.join W.Joining.nil words.now }
+    ensures value { result ≡ sum_of W.Joining.nil W.Joining.join words.now }
+    ensures bound { LeastBound W.Joining.join words.now result }
+    ensures any_order { AnyOrder W.Joining.nil W.Joining.join words.now result }
 {
     words
         .iter()
