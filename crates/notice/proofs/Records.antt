@@ -1,7 +1,5 @@
 -- The records of a table as its chunks of 64 bytes. Assumes nothing.
-use Rattle.std.proofs.Common.{◌≡◌, ℕ, zero, suc, ◌+◌, ◌-◌, ◌*◌, ◌<◌, ◌≤◌, ◌≢◌, List, [], length, take, drop, get_or, Option, Some, None, MatchOption, Bool, true, false, MatchBool, Decides, refl, sym, ap, ◌∙◌, subst, add-zero, zero-add, length-take, length-drop, arith}
-use Rattle.std.specs.Borrow.{Bor}
-use Rattle.std.specs.List.{AllWithin, HoldsAt}
+use Rattle.std.proofs.Common.{◌≡◌, ℕ, zero, suc, ◌+◌, ◌-◌, ◌*◌, ◌<◌, ◌≤◌, ◌≢◌, List, [], length, take, drop, get_or, Bool, Decides, sym, ap, ◌∙◌, subst, add-zero, zero-add, length-take, length-drop, arith}
 use Rattle.std.specs.Simd.{first_chunks}
 use Rattle.std.proofs.Math.Nat.{mul-zero}
 use Rattle.std.proofs.lemmas.List.{get_or-drop, get_or-take, drop-take, drop-drop, take-take}
@@ -72,27 +70,31 @@ module _ (t : List ℕ) (all : List (List ℕ)) (each : EachRecord t all) (count
   code_of : (k : ℕ) → k < records t → get_or (get_or all k []) 0 0 ≡ code_at t k
   code_of k below = ap (λ b. get_or b 0 0) (each k [] below) ∙ code_in t k
 
-  -- what a search of the elements for a code says of the table
-  pub first_record : (code : ℕ) (r : Option (Bor (List ℕ))) → MatchOption r (AllWithin (λ b. get_or b 0 0 ≢ code) all 0 (length all)) (λ x. (get_or x.now 0 0 ≡ code) × (i : ℕ) × (i < length all) × HoldsAt (λ b. b ≡ x.now) all i × AllWithin (λ b. get_or b 0 0 ≢ code) all 0 i) → MatchOption r (Lacks t code) (λ x. FirstRecord t code x.now)
-  first_record code None h = λ k below same. h k [] (omega arith) (omega arith) (code_of k below ∙ same)
-  first_record code (Some x) (same, i, within, here, before) =
+  -- no element has the code
+  pub none_with : (code : ℕ) → ((k : ℕ) → k < length all → get_or (get_or all k []) 0 0 ≢ code) → Lacks t code
+  none_with code h k below same = h k (omega arith) (code_of k below ∙ same)
+
+  -- element i has the code, and none before it
+  pub first_with : (code i : ℕ) → i < length all → get_or (get_or all i []) 0 0 ≡ code → ((k : ℕ) → k < i → get_or (get_or all k []) 0 0 ≢ code) → FirstRecord t code (get_or all i [])
+  first_with code i within here before =
       let below : i < records t = omega arith in
-      let part : x.now ≡ record_at t i = sym (here []) ∙ each i [] below in
       record {
         place = i;
         inside = below;
-        same = sym (code_in t i) ∙ ap (λ b. get_or b 0 0) (sym part) ∙ same;
-        first = λ k low e. before k [] (omega arith) low (code_of k (omega arith) ∙ e);
-        part = part;
+        same = sym (code_of i below) ∙ here;
+        first = λ k low e. before k low (code_of k (omega arith) ∙ e);
+        part = each i [] below;
       }
 
-  -- what a test of each element says of the table
-  pub all_formed : (r : Bool) → MatchBool r (AllWithin (λ b. FormedAt b 0) all 0 (length all)) ((k : ℕ) × (k < length all) × HoldsAt (λ b. FormedAt b 0 → ⊥) all k) → Decides r (Formed t)
-  all_formed true h = ((λ _ k below. let P : List ℕ → Type 0 = λ b. FormedAt b 0 in formed_out t k (subst P (each k [] below) (h k [] (omega arith) (omega arith)))), λ _. refl)
-  all_formed false (k, within, fails) =
+  -- each element is formed, or one is not
+  pub all_formed : ((k : ℕ) → k < length all → FormedAt (get_or all k []) 0) → Formed t
+  all_formed h k below = let P : List ℕ → Type 0 = λ b. FormedAt b 0 in formed_out t k (subst P (each k [] below) (h k (omega arith)))
+
+  pub one_unformed : (i : ℕ) → i < length all → (FormedAt (get_or all i []) 0 → ⊥) → Formed t → ⊥
+  one_unformed i within fails f =
       let P : List ℕ → Type 0 = λ b. FormedAt b 0 in
-      let below : k < records t = omega arith in
-      ((λ e. cc), λ f. absurd (fails [] (subst P (sym (each k [] below)) (formed_in t k (f k below)))))
+      let below : i < records t = omega arith in
+      fails (subst P (sym (each i [] below)) (formed_in t i (f i below)))
 
 module _ (t : List ℕ) (code : ℕ) (b : List ℕ) (formed : Formed t) (found : FirstRecord t code b) where
   -- the length of the first record with a code

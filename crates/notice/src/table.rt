@@ -50,18 +50,26 @@ impl<'a> Records<'a> {
     fn first_with(self, code: u8) -> Option<&'a [u8; RECORD]>
         ensures { MatchOption result (Lacks self.entry.bytes.now code) (λ r. FirstRecord self.entry.bytes.now code r.now) }
     {
-        self.each().iter().find(|record| record[0] == code)
+        let all = self.each();
+        for record in all {
+            if record[0] == code {
+                return Some(record);
+            }
+        }
+        None
     }
 
     // The table, where each of its records has a length of 1 to 62 and zeros after its text.
     pub(crate) fn formed(self) -> Result<TextTable<'a>, TextFault>
         ensures { MatchResult result (λ r. r.records.bytes.now ≡ self.entry.bytes.now) (λ e. (e ≡ Record) × (Formed self.entry.bytes.now → ⊥)) }
     {
-        if self.each().iter().all(record_formed) {
-            Ok(TextTable { records: self })
-        } else {
-            Err(TextFault::Record)
+        let all = self.each();
+        for record in all {
+            if !record_formed(record) {
+                return Err(TextFault::Record);
+            }
         }
+        Ok(TextTable { records: self })
     }
 }
 
@@ -96,5 +104,10 @@ fn record_formed(bytes: &[u8; RECORD]) -> bool
 fn all_zero(bytes: &[u8]) -> bool
     ensures { Decides result ((j : ℕ) → j < length bytes.now → slice_index bytes.now j ≡ 0) }
 {
-    bytes.iter().all(|byte| *byte == 0)
+    for byte in bytes {
+        if *byte != 0 {
+            return false;
+        }
+    }
+    true
 }
