@@ -40,7 +40,7 @@ pub fn any_waiting<W: Word + Copy, P: PostView<W>>(post: &P, sender: u8, receive
     waits_between(post, sender, receiver)
 }
 
-// Whether any word was ever posted. (The same holds of its proof.)
+// Whether any word was ever posted. (Its proof too is written by hand, below.)
 pub fn ever_posted<W: Word + Copy, P: PostView<W>>(post: &P) -> bool
     ensures { Decides result (Used (P.PostView.places post.now)) }
 {
@@ -49,7 +49,6 @@ pub fn ever_posted<W: Word + Copy, P: PostView<W>>(post: &P) -> bool
 
 // Whether in some round the place from one office to another passes the test. The rounds go from 1 to the
 // reach; the library has no lemma on what a chain over `1..=n` yields.
-#[tactic(auto, unfolding(words::specs::Below::some))]
 fn in_some_round<W: Word + Copy, P: PostView<W>, T: Fn(Place<W>) -> bool>(
     post: &P,
     sender: u8,
