@@ -142,8 +142,8 @@ fn tried_in<W: Word + Copy>(
     tried(rt, &mut board, board_reach, a, b);
 }
 
-// The memories are made in each test, of its own kind of word: that an array of any kind fits into memory
-// can't be proved.
+// The memories are made in each test, of its own kind of word: the proof that an array of any kind fits into
+// memory doesn't close.
 #[test]
 fn posts_for_termination_words(rt: HostRuntime) {
     for (size, grid_reach, board_reach) in SIZES {

@@ -56,7 +56,7 @@ pub record FirstText (t : List ℕ) (code : ℕ) (text : List ℕ) : Type 0 wher
   pub first : (k : ℕ) → k < place → code_at t k ≢ code
   pub part : text ≡ text_at t place
 
--- the bytes are those of the first record of the table with the code
+-- the bytes are those of the first record of the table with the code (the fields are those of FirstText, which stays as it is)
 pub record FirstRecord (t : List ℕ) (code : ℕ) (bytes : List ℕ) : Type 0 where
   pub place : ℕ
   pub inside : place < records t

@@ -43,7 +43,7 @@ impl Refusal for NoticeFault {
 
     ghost digits = { Prim.search rules };
 
-    // `as` takes no enum with a variant that has a field.
+    // `as` takes no enum with a variant that has a field, and no other form is plainer than the match.
     fn number(&self) -> u8 {
         match self {
             NoticeFault::Office => 5,
@@ -53,6 +53,7 @@ impl Refusal for NoticeFault {
     }
 }
 
+// Written out: a derive states nothing of what it gives.
 impl From<TextFault> for NoticeFault {
     ghost from_gives = { λ e r. r ≡ Text e };
 

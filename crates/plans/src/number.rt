@@ -22,6 +22,7 @@ pub enum NumberedPlan {
 #[derive(Clone, Copy, Debug, PartialEq, Eq)]
 pub struct UnknownPlan(pub u8);
 
+// Written out: a derive states nothing of what it gives.
 impl TryFrom<u8> for NumberedPlan {
     type Error = UnknownPlan;
 

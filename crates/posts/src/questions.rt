@@ -31,8 +31,8 @@ pub(crate) fn agrees_in<W: Word + Copy, P: PostView<W>>(
     })
 }
 
-// Whether any word waits from one office for another. (Its proof is written by hand, below, so that a bug
-// planted here is refused here.)
+// Whether any word waits from one office for another; the two without a round are no address. (Its proof is
+// written by hand, below, so that a bug planted here is refused here.)
 pub fn any_waiting<W: Word + Copy, P: PostView<W>>(post: &P, sender: u8, receiver: u8) -> bool
     ensures value { result ≡ some_waits (P.PostView.places post.now) (P.PostView.reach post.now) sender receiver }
     ensures rule { Decides result (WaitsFrom (P.PostView.places post.now) sender receiver) }

@@ -47,8 +47,8 @@ fn rounds_of<E: Entry>(memory: &[E]) -> u8
     rounds.min(32) as u8
 }
 
-// The index in the memory of the entry of an address. (A slice of rounds would need an array whose length an
-// entry's kind gives.)
+// The index in the memory of the entry of an address. (Slices of rounds, by chunks whose length an entry's kind
+// gives, would need a second index into each, and are no plainer.)
 fn index_of<E: Entry>(memory: &[E], place: Served) -> usize
     requires { place.reach ≡ reach_of E.layout memory.now }
     ensures is { result ≡ place_index E.layout place.at.sender place.at.receiver place.at.round }

@@ -47,7 +47,7 @@ impl Refusal for CallFault {
 
     ghost digits = { Prim.search rules };
 
-    // `as` takes no enum with a variant that has a field.
+    // `as` takes no enum with a variant that has a field, and no other form is plainer than the match.
     fn number(&self) -> u8 {
         match self {
             CallFault::NoSuchOffice => 5,
