@@ -94,9 +94,13 @@ decision_new m (Close i) ok = elim (cases_Bool (terminating (office m i))) [ inl
 decision_new m (Notice i j) ok = cond_both (terminating (office m i)) _ _ (λ (o : Office). o.decision ≡ (office m i).decision) (λ _. refl) (λ _. refl)
 decision_new m _ ok = refl
 
+pick_round : (b : Bool) (o p : Office) (x y : Option Decision) (r old : Option ℕ) → o.deciding ≡ cond (undecided x) old r → p.deciding ≡ old → (cond b o p).deciding ≡ cond (b && not (undecided (cond b x y))) r old
+pick_round true o p x y r old e f = grind arith
+pick_round false o p x y r old e f = f
+
 pub deciding_new : (m : Model) (c : Call) → (record_after m c).deciding ≡ cond (ends_round m (actor c) c && not (undecided (closing_gives m (actor c)))) (Some (office m (actor c)).round) (office m (actor c)).deciding
 deciding_new m (Vote i v) = cond_both (eqb v 1) _ _ (λ (o : Office). o.deciding ≡ (office m i).deciding) (λ _. refl) (λ _. refl)
-deciding_new m (Close i) = elim (cases_Bool (terminating (office m i))) [ inl p ↦ rw (p, eq-eqb i i refl) (grind arith) | inr p ↦ rw (p, eq-eqb i i refl) refl ]
+deciding_new m (Close i) = rw (eq-eqb i i refl) (pick_round (terminating (office m i)) _ _ _ _ (Some (office m i).round) (office m i).deciding refl refl)
 deciding_new m (Notice i j) = cond_both (terminating (office m i)) _ _ (λ (o : Office). o.deciding ≡ (office m i).deciding) (λ _. refl) (λ _. refl)
 deciding_new m _ = refl
 

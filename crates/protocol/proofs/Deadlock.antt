@@ -151,7 +151,7 @@ module _ (m : Model) (w : ℕ → ℕ → TermWord) (g : Good m w) (stuck : (c :
     ]
 
     in_reach : (i : ℕ) → i < m.n → (office m i).standing ≡ true → (office m i).decision ≡ None → (office m i).round ≤ m.termination.reach
-    in_reach i li st un = let (lim, _) = (g.rec i li).still_open (has_entered d ld so i li st) un in let c = count_all m.n (net m w).dropped in let r = g.fixed.termination_reach in omega arith
+    in_reach i li st un = let (_, _, lim, _) = (g.rec i li).still_open (has_entered d ld so i li st) un in let c = count_all m.n (net m w).dropped in let r = g.fixed.termination_reach in omega arith
 
     -- a standing office that decided keeps no standing undecided office ahead of it
     ahead : (i j : ℕ) → i < m.n → j < m.n → (office m i).standing ≡ true → (office m j).standing ≡ true → (office m i).decision ≡ None → (office m j).decision ≢ None → (office m j).round < (office m i).round → ⊥
@@ -161,7 +161,7 @@ module _ (m : Model) (w : ℕ → ℕ → TermWord) (g : Good m w) (stuck : (c :
         let pj = has_entered d ld so j lj stj in
         let ti = t_is i li sti in
         let tj = t_is j lj stj in
-        let (_, fs) = (g.rec i li).still_open pi un in
+        let (_, _, _, fs) = (g.rec i li).still_open pi un in
         let r = g.rec j lj in
         let from = r.from in
         let (none1, none2, _) = no_rule (fits1 s i (office m j).round) (fits2 s i (office m j).round) (fits3 s i (office m j).round) (fs (office m j).round from lt) in
@@ -169,12 +169,12 @@ module _ (m : Model) (w : ℕ → ℕ → TermWord) (g : Good m w) (stuck : (c :
         let told-j : spoke (heard (m.termination.places j i (office m j).round)) ≡ true = took_j s (office m j).round i j (g.sound.closed i j (office m j).round from (omega arith) lj ne) (λ q. gone j (g.sound.gone i j q) stj) in
         let not_A : s.word j (office m j).round ≢ A = λ a. both_ways _ none1 (hears_A s i j (office m j).round lj (g.sound.own j i (office m j).round) told-j a) in
         elim (r.shut pj de) [
-          | inl (r1, e) ↦ elim (decided_class (class m.n (office m j).knowledge) (λ q. de (e ∙ q))) [
+          | inl (_, r1, e) ↦ elim (decided_class (class m.n (office m j).knowledge) (λ q. de (e ∙ q))) [
             | inl a ↦ not_A (ap (s.word j) r1 ∙ r.first pj ∙ a)
             | inr c ↦ let no-N : (l : ℕ) → l < m.n → 1 ≤ s.t l → s.word l 1 ≢ N = λ l ll t1 q. class-N m.n _ (ready_all m w g j (class_commit m.n _ c) l ll) (sym (first_of m w g l ll t1) ∙ q) in
                 none-N s g.sound i 1 li (omega arith) no-N (ap (fits1 s i) (sym r1) ∙ none1) (ap (fits2 s i) (sym r1) ∙ none2)
           ]
-          | inr (k, q1, rq, f) ↦ elim (some_rule (fits1 s j k) (fits2 s j k) (fits3 s j k) (λ z. de (f ∙ z))) [
+          | inr (k, _, q1, rq, f, _, _) ↦ elim (some_rule (fits1 s j k) (fits2 s j k) (fits3 s j k) (λ z. de (f ∙ z))) [
             | inl x ↦ not_A (ap (s.word j) rq ∙ g.sound.grown j k q1 (omega arith) ∙ says_A_next s j k x)
             | inr x ↦ let no-N : (l : ℕ) → l < m.n → suc k ≤ s.t l → s.word l (suc k) ≢ N = λ l ll tl. after-C s g.sound j k lj q1 (ap not stj) (word_C s j k x) (omega arith) l ll tl in
                 none-N s g.sound i (suc k) li (omega arith) no-N (ap (fits1 s i) (sym rq) ∙ none1) (ap (fits2 s i) (sym rq) ∙ none2)
@@ -313,7 +313,7 @@ module _ (m : Model) (w : ℕ → ℕ → TermWord) (g : Good m w) (stuck : (c :
     voting_decided i li un = elim (cases_lt (last (votes m) i) (office m i).round) [
       | inr le ↦ no_round_left (suc (office m i).round) i li (omega arith) le
       | inl nl ↦
-          let de = (g.rec i li).in_voting (voting i li) in
+          let de = ((g.rec i li).in_voting (voting i li)).0 in
           elim (cases_eq (office m i).knowledge.no.mask 0) [
             | inr ne ↦ class-some m.n _ ne (sym de ∙ un)
             | inl z ↦

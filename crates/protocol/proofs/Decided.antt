@@ -60,10 +60,10 @@ module _ (m : Model) (w : ℕ → ℕ → TermWord) (g : Good m w) where
   -- where a decision comes from: the class of what i knows, or a termination closing
   pub source : (i : ℕ) → i < m.n → (office m i).decision ≢ None → ((office m i).decision ≡ decision_of (class m.n (office m i).knowledge)) ⊎ ((k : ℕ) × (1 ≤ k) × (k < (net m w).t i) × ((office m i).decision ≡ fate_at (net m w) i k))
   source i li nd = elim (cases_Bool (terminating (office m i))) [
-    | inr p ↦ inl ((g.rec i li).in_voting p)
+    | inr p ↦ inl ((g.rec i li).in_voting p).0
     | inl p ↦ elim ((g.rec i li).shut p nd) [
-      | inl (_, e) ↦ inl e
-      | inr (k, k1, e, f) ↦ let te : t_of (office m i) ≡ (office m i).round = cond-true _ _ _ p in inr (k, k1, omega arith, f)
+      | inl (_, _, e) ↦ inl e
+      | inr (k, _, k1, e, f, _, _) ↦ let te : t_of (office m i) ≡ (office m i).round = cond-true _ _ _ p in inr (k, k1, omega arith, f)
     ]
   ]
 

@@ -199,7 +199,7 @@ module _ (m : Model) (w : ℕ → ℕ → TermWord) (g : Good m w) (i : ℕ) whe
 
   closing-stays : i < m.n → terminating (office m i) ≡ false → (office m i).decision ≢ None → latest (decision_of (class m.n (after-closing m w g i))) (office m i).decision ≡ (office m i).decision
   closing-stays li p nd =
-      let de = (g.rec i li).in_voting p in
+      let de = ((g.rec i li).in_voting p).0 in
       both_stay (office m i).decision (decision_of (class m.n (after-closing m w g i))) nd
       (λ a c. abort_commit (no-class m w g i (after-closing m w g i) (λ z. class_abort m.n _ (sym de ∙ a) (none_before (view.votes m) i (ap (λ k. k.no.mask) (sym (after_is m w g i p)) ∙ z)))) c)
       (λ c a.
@@ -216,7 +216,7 @@ unfolding after-closing
 kept_new m w g (Vote i v) ok nd =
     let (li, _, _, p, vo) = asked.vote_asked m i v ok in
     let (k, _) = g.fair.blank i vo in
-    absurd (nd ((g.rec i li).in_voting p ∙ yes-class m w g i (office m i).knowledge (ap (λ k. k.no.mask) k) (ap (λ k. k.ready.mask) k)))
+    absurd (nd (((g.rec i li).in_voting p).0 ∙ yes-class m w g i (office m i).knowledge (ap (λ k. k.no.mask) k) (ap (λ k. k.ready.mask) k)))
 kept_new m w g (Close i) ok nd = cond_both (terminating (office m i)) _ _ (λ (o : Office). o.decision ≡ (office m i).decision)
     (λ p. absurd (nd (asked.close_ending m i p ok))) (λ p. closing-stays m w g i (asked.close_asked m i ok).0 p nd)
 kept_new m w g (Notice i j) ok nd = cond_both (terminating (office m i)) _ _ (λ (o : Office). o.decision ≡ (office m i).decision) (λ _. refl) (λ _. refl)

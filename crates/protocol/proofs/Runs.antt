@@ -138,7 +138,7 @@ module _ (m : Model) (o : Opening m) where
       primed = λ i l _ lt _ _. let z = r_low i in let h = o.some_rounds in absurd (omega arith);
       primed_in = λ s d k l e _. absurd (all_vacant s d k e);
     };
-    rec = λ a la. steps.voting_rec _ _ _ (in_voting a) (let few = o.few in let q : office m a ≡ fresh = ap (λ l. get_or l a nobody) o.all_fresh ∙ get_or-replicate 16 a fresh nobody (omega arith) in rw q (omega arith)) (no-told a) (like (λ o. o.decision) None refl refl a ∙ sym no-ruling ∙ ap (λ k. decision_of (class m.n k)) (sym (like (λ o. o.knowledge) knows_nothing refl refl a)));
+    rec = λ a la. steps.voting_rec _ _ _ (in_voting a) (let few = o.few in let q : office m a ≡ fresh = ap (λ l. get_or l a nobody) o.all_fresh ∙ get_or-replicate 16 a fresh nobody (omega arith) in rw q (omega arith)) (no-told a) (like (λ o. o.decision) None refl refl a ∙ sym no-ruling ∙ ap (λ k. decision_of (class m.n k)) (sym (like (λ o. o.knowledge) knows_nothing refl refl a)), like (λ o. o.deciding) None refl refl a);
   }
 
   pub fine : (h : List Call) → Fine (run m h)

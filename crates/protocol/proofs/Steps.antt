@@ -1,5 +1,5 @@
 -- Each accepted call keeps what Good says. Assumes nothing.
-use Rattle.std.proofs.Common.{◌≡◌, ℕ, suc, ◌-◌, ◌<◌, ◌≤◌, Bool, true, false, not, ◌&&◌, ◌||◌, eqb, ◌≢◌, None, Option, sym, refl, ap, ◌∙◌, subst, inl, inr, arith}
+use Rattle.std.proofs.Common.{◌≡◌, ℕ, suc, ◌-◌, ◌<◌, ◌≤◌, Bool, true, false, cond, not, ◌&&◌, ◌||◌, eqb, ◌≢◌, Some, None, Option, sym, refl, ap, ◌∙◌, subst, inl, inr, arith}
 use mathlib.Core.Path.{fun_ext}
 use Rattle.std.proofs.lemmas.Bool.Decides.{nat_tests}
 use Rattle.std.proofs.lemmas.Bool.{true≢false, both_ways, cases_eq, cases_Bool, cond-true, cond-false}
@@ -19,7 +19,7 @@ use Rattle.protocol.specs.Asked.{waiting_from, verdict}
 use Rattle.protocol.specs.Hearing.{heard, spoke}
 use Rattle.protocol.specs.Letters.{N, to_abort}
 use Rattle.protocol.specs.Model.{Mail, Model, office, voting_rounds}
-use Rattle.protocol.specs.Records.{prior, terminating, word, latest, next_round, voted_yes, voted_no, dropped_out, told_of, entered, closed_voting, closed_termination}
+use Rattle.protocol.specs.Records.{prior, terminating, word, undecided, latest, next_round, voted_yes, voted_no, dropped_out, told_of, entered, closed_voting, closed_termination}
 use Rattle.protocol.specs.Rules.{learns, class, first_word, ruling, next_word}
 use Rattle.protocol.specs.Steps.{taken, filled, heard_in, with_office, with_voting, with_termination}
 use Rattle.protocol.proofs.Updates.{at1, at2, at3, at1_is, at2_is, filled_is}
@@ -50,7 +50,7 @@ abbrev pub at_round : Office → ℕ → Office
 at_round o r = record o { round = r }
 
 -- the record of an office in voting
-pub voting_rec : (s : Net) (i : ℕ) (o : Office) → terminating o ≡ false → 1 ≤ o.round → ((j : ℕ) → member o.told j ≡ false) → o.decision ≡ decision_of (class s.n o.knowledge) → Rec s i o
+pub voting_rec : (s : Net) (i : ℕ) (o : Office) → terminating o ≡ false → 1 ≤ o.round → ((j : ℕ) → member o.told j ≡ false) → (o.decision ≡ decision_of (class s.n o.knowledge)) × (o.deciding ≡ None) → Rec s i o
 voting_rec s i o p from told de = record {
   word_now = λ e. absurd (both_ways _ p e);
   prior_now = λ e. absurd (both_ways _ p e);
@@ -97,7 +97,7 @@ module _ (m : Model) (w : Words) (g : Good m w) where
     -- the last round, by what i knows
     pub last_is : i < m.n → terminating (office m i) ≡ false → voting_rounds m.h (office m i).decision ≡ v.last (votes m) i
     unfolding class
-    last_is li p = let e = (g.rec i li).in_voting p in rw e (grind arith)
+    last_is li p = let e = ((g.rec i li).in_voting p).0 in rw e (grind arith)
 
     pub speak_voting : (j : ℕ) → terminating (office m i) ≡ false → verdict m (Speak i j) ≡ 0 → Good (with_voting m (filled m.voting i j (office m i).round (Waiting (office m i).knowledge))) w
     speak_voting j p ok =
@@ -190,9 +190,9 @@ module _ (m : Model) (w : Words) (g : Good m w) where
         let o = office m i in
         let (kn, _) = g.fair.blank i vo in
         let r = g.rec i li in
-        let de = r.in_voting p in
+        let (de, z) = r.in_voting p in
         let from = r.from in
-        let rec' : Rec (net m w) i (voted_yes o i) = voting_rec _ _ _ p (r.from) (r.untold p) (de ∙ yes-class o.knowledge (ap (λ k. k.no.mask) kn) (ap (λ k. k.ready.mask) kn) ∙ sym (yes-class _ (ap (λ k. k.no.mask) kn) (ap (λ k. k.ready.mask) kn))) in
+        let rec' : Rec (net m w) i (voted_yes o i) = voting_rec _ _ _ p (r.from) (r.untold p) (de ∙ yes-class o.knowledge (ap (λ k. k.no.mask) kn) (ap (λ k. k.ready.mask) kn) ∙ sym (yes-class _ (ap (λ k. k.no.mask) kn) (ap (λ k. k.ready.mask) kn)), z) in
         let can : Can (votes m) (v.yes i) = (li, vo, rw (r_is p) from) in
         let f = fair_kept (votes m) g.fair cover (v.yes i) can in
         keep_net (voted_yes o i) li refl refl refl rec'
@@ -202,9 +202,9 @@ module _ (m : Model) (w : Words) (g : Good m w) where
     vote_no li p vo =
         let o = office m i in
         let r = g.rec i li in
-        let de = r.in_voting p in
+        let (de, z) = r.in_voting p in
         let from = r.from in
-        let rec' : Rec (net m w) i (voted_no o i) = voting_rec _ _ _ p (r.from) (r.untold p) (sym (no-class _ (with_some li o.knowledge.no))) in
+        let rec' : Rec (net m w) i (voted_no o i) = voting_rec _ _ _ p (r.from) (r.untold p) (sym (no-class _ (with_some li o.knowledge.no)), z) in
         let can : Can (votes m) (v.no i) = (li, vo, rw (r_is p) from) in
         let f = fair_kept (votes m) g.fair cover (v.no i) can in
         keep_net (voted_no o i) li refl refl refl rec'
@@ -239,7 +239,7 @@ module _ (m : Model) (w : Words) (g : Good m w) where
         let (li, st, e1, e2) = asked.close_asked m i ok in
         let (vo, le) = asked.close_voting m i p ok in
         let r = g.rec i li in
-        let de = r.in_voting p in
+        let (de, z) = r.in_voting p in
         let from = r.from in
         let re = r_is p in
         let can : Can (votes m) (v.close i) = (
@@ -251,7 +251,7 @@ module _ (m : Model) (w : Words) (g : Good m w) where
           all_below m.n _ (λ j lj. let q = every_at m.n _ e2 j lj in rw re (rw p at q)),
         ) in
         let f = fair_kept (votes m) g.fair cover (v.close i) can in
-        let rec' : Rec (net m w) i after-voting = voting_rec _ _ _ p (omega arith) (r.untold p) (latest-same _ _ (λ u. de ∙ closing_keeps p u)) in
+        let rec' : Rec (net m w) i after-voting = voting_rec _ _ _ p (omega arith) (r.untold p) (latest-same _ _ (λ u. de ∙ closing_keeps p u), z) in
         keep_net after-voting li (cond-false _ _ _ p ∙ sym (t_not p)) refl refl rec'
         (fair_at _ _ _ _
         (at1_map (λ o. o.knowledge) (office m) i after-voting ∙ ap (at1 (λ a. (office m a).knowledge) i) (after_is p))
@@ -290,16 +290,16 @@ module _ (m : Model) (w : Words) (g : Good m w) where
     enter_word = first_word (class m.n (office m i).knowledge)
 
     -- i enters, in a termination s in which it is still in voting, with whatever it was told
-    enter_rec : (s : Net) (o : Office) → s.n ≡ m.n → s.word i 0 ≡ N → o.decision ≡ decision_of (class s.n o.knowledge) → (x : TermWord) → x ≡ first_word (class m.n o.knowledge) → May s (enter i x) → Rec (does s (enter i x)) i (entered m.n o)
-    enter_rec s o n z de x xe may = record {
+    enter_rec : (s : Net) (o : Office) → s.n ≡ m.n → s.word i 0 ≡ N → (o.decision ≡ decision_of (class s.n o.knowledge)) × (o.deciding ≡ None) → (x : TermWord) → x ≡ first_word (class m.n o.knowledge) → May s (enter i x) → Rec (does s (enter i x)) i (entered m.n o)
+    enter_rec s o n z (de, dz) x xe may = record {
       word_now = λ _. sym xe ∙ sym at_one;
       prior_now = λ _. sym (sym (word_kept s (enter i x) i 0 may (omega arith)) ∙ z);
       first = λ _. at_one ∙ xe ∙ ap (λ n. first_word (class n o.knowledge)) (sym n);
       from = omega arith;
       untold = λ e. absurd (true≢false e);
       in_voting = λ e. absurd (true≢false e);
-      still_open = λ _ u. (omega arith, λ k k1 lt. absurd (omega arith));
-      shut = λ _ u. inl (refl, de);
+      still_open = λ _ u. (sym de ∙ u, dz, omega arith, λ k k1 lt. absurd (omega arith));
+      shut = λ _ u. inl (dz, refl, de);
     }
       where
         at_one : (does s (enter i x)).word i 1 ≡ x
@@ -386,7 +386,7 @@ module _ (m : Model) (w : Words) (g : Good m w) where
         let te = t_is p in
         let from = r.from in
         let back : o.round ≡ suc o.round - 1 = omega arith in
-        let (lim, fs) = r.still_open p (asked.close_ending m i p ok) in
+        let (ru, dz, lim, fs) = r.still_open p (asked.close_ending m i p ok) in
         let f : Option Decision = ruling m.n o.round (word o) (heard_in m.termination i o.round) (prior o) (heard_in m.termination i (o.round - 1)) in
         let now-fate : fate_at (does s (close i)) i o.round ≡ f = sym (fate_kept s (close i) i o.round may (omega arith) (inr refl) (inr refl)) ∙ ap (fate_at s i) (sym te) ∙ fate_is li p in
         let old : (k : ℕ) → 1 ≤ k → k < o.round → fate_at (does s (close i)) i k ≡ None = λ k k1 lt. sym (fate_kept s (close i) i k may (omega arith) (inr refl) (inr refl)) ∙ fs k k1 lt in
@@ -401,14 +401,17 @@ module _ (m : Model) (w : Words) (g : Good m w) where
               let fu : f ≡ None = later_open f o.decision u in
               let (n1, n2, n3) = no_rule _ _ _ (fate_is li p ∙ fu) in
               let bd = bounded s g.sound i (may_close s i may) n1 n2 n3 in
-              (omega arith, λ k k1 lt. elim (cases_eq k o.round) [ inl q ↦ ap (fate_at (does s (close i)) i) q ∙ now-fate ∙ fu | inr ne ↦ old k k1 (omega arith) ]);
+              (ru, ap (λ d. cond (undecided d) o.deciding (Some o.round)) fu ∙ dz, omega arith, λ k k1 lt. elim (cases_eq k o.round) [ inl q ↦ ap (fate_at (does s (close i)) i) q ∙ now-fate ∙ fu | inr ne ↦ old k k1 (omega arith) ]);
           shut = λ _ u.
               let fu : f ≢ None = λ q. u (ap (λ d. latest d o.decision) q ∙ asked.close_ending m i p ok) in
-              inr (o.round, from, refl, decided f o.decision fu ∙ sym now-fate);
+              inr (o.round, decided_at f o.deciding (Some o.round) fu, from, refl, decided f o.decision fu ∙ sym now-fate, ru, old);
         }
       where
         later_open : (d e : Option Decision) → latest d e ≡ None → d ≡ None
         later_open d e q = grind arith
+
+        decided_at : (d : Option Decision) (x y : Option ℕ) → d ≢ None → cond (undecided d) x y ≡ y
+        decided_at d x y q = grind arith
 
         decided : (d e : Option Decision) → d ≢ None → latest d e ≡ d
         decided d e q = grind arith
@@ -443,7 +446,7 @@ module _ (m : Model) (w : Words) (g : Good m w) where
     pub up_ending : terminating (office m i) ≡ true → verdict m (Close i) ≡ 0 → next_round (office m i).round ≡ suc (office m i).round
     up_ending p ok =
         let li = (asked.close_asked m i ok).0 in
-        let (lim, _) = (g.rec i li).still_open p (asked.close_ending m i p ok) in
+        let (_, _, lim, _) = (g.rec i li).still_open p (asked.close_ending m i p ok) in
         let c = count_all m.n (net m w).dropped in
         let few = g.fixed.few in
         up_is (office m i).round (omega arith)

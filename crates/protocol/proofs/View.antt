@@ -1,5 +1,5 @@
 -- A release seen as its termination and as its voting, and what every run keeps. Assumes nothing.
-use Rattle.std.proofs.Common.{◌≡◌, ℕ, suc, ◌+◌, ◌-◌, ◌<◌, ◌≤◌, Bool, true, false, cond, not, ◌≢◌, ◌⊎◌, length, get_or, set, None, sym, ap, ◌∙◌, subst, inl, inr, arith, length-set, get_or-set_other, get_or-set_same}
+use Rattle.std.proofs.Common.{◌≡◌, ℕ, suc, ◌+◌, ◌-◌, ◌<◌, ◌≤◌, Bool, true, false, cond, not, ◌≢◌, ◌⊎◌, length, get_or, set, Some, None, sym, ap, ◌∙◌, subst, inl, inr, arith, length-set, get_or-set_other, get_or-set_same}
 use mathlib.Core.Path.{fun_ext}
 use Rattle.words.specs.declared.knowledge.Knowledge.{Knowledge}
 use Rattle.words.specs.declared.term.TermWord.{TermWord}
@@ -44,11 +44,11 @@ pub record Rec (s : Net) (i : ℕ) (o : Office) : Type 0 where
   pub first : terminating o ≡ true → s.word i 1 ≡ first_word (class s.n o.knowledge)
   pub from : 1 ≤ o.round
   pub untold : terminating o ≡ false → (j : ℕ) → member o.told j ≡ false
-  pub in_voting : terminating o ≡ false → o.decision ≡ decision_of (class s.n o.knowledge)
-  pub still_open : terminating o ≡ true → o.decision ≡ None → (o.round ≤ suc (count s.n s.dropped)) × ((k : ℕ) → 1 ≤ k → k < o.round → fate_at s i k ≡ None)
+  pub in_voting : terminating o ≡ false → (o.decision ≡ decision_of (class s.n o.knowledge)) × (o.deciding ≡ None)
+  pub still_open : terminating o ≡ true → o.decision ≡ None → (decision_of (class s.n o.knowledge) ≡ None) × (o.deciding ≡ None) × (o.round ≤ suc (count s.n s.dropped)) × ((k : ℕ) → 1 ≤ k → k < o.round → fate_at s i k ≡ None)
   pub shut : terminating o ≡ true → o.decision ≢ None →
-      ((o.round ≡ 1) × (o.decision ≡ decision_of (class s.n o.knowledge)))
-      ⊎ ((k : ℕ) × (1 ≤ k) × (o.round ≡ suc k) × (o.decision ≡ fate_at s i k))
+      ((o.deciding ≡ None) × (o.round ≡ 1) × (o.decision ≡ decision_of (class s.n o.knowledge)))
+      ⊎ ((k : ℕ) × (o.deciding ≡ Some k) × (1 ≤ k) × (o.round ≡ suc k) × (o.decision ≡ fate_at s i k) × (decision_of (class s.n o.knowledge) ≡ None) × ((j : ℕ) → 1 ≤ j → j < k → fate_at s i j ≡ None))
 
 -- what no call changes
 pub record Fixed (m : Model) : Type 0 where
@@ -77,10 +77,10 @@ rec_kept s c a o ok te r = record {
   from = r.from;
   untold = r.untold;
   in_voting = r.in_voting;
-  still_open = λ e u. let (z, f) = r.still_open e u in let d = dropped_kept s c ok in (omega arith, λ k k1 lt. sym (stays k (low e k lt)) ∙ f k k1 lt);
+  still_open = λ e u. let (x, y, z, f) = r.still_open e u in let d = dropped_kept s c ok in (x, y, omega arith, λ k k1 lt. sym (stays k (low e k lt)) ∙ f k k1 lt);
   shut = λ e u. elim (r.shut e u) [
     | inl x ↦ inl x
-    | inr (k, k1, b, d) ↦ inr (k, k1, b, d ∙ stays k (low e k (omega arith)))
+    | inr (k, dk, k1, b, d, z, f) ↦ inr (k, dk, k1, b, d ∙ stays k (low e k (omega arith)), z, λ j j1 lt. sym (stays j (low e j (omega arith))) ∙ f j j1 lt)
   ];
 }
   where

@@ -71,7 +71,7 @@ module _ (m : Model) (o : Opening m) where
         let (w, g) = fine in
         let li = (asked.close_asked (run m h) i d.closing).0 in
         let p = phase i ∙ d.in_termination in
-        let (lim, _) = (g.rec i li).still_open p (asked.close_ending (run m h) i p d.closing) in
+        let (_, _, lim, _) = (g.rec i li).still_open p (asked.close_ending (run m h) i p d.closing) in
         let r = history.rounds_shown m open_fine h i (runs.in_voting m o i) p in
         let e = same-n in
         let c = count_le m.n (net (run m h) w).dropped (dropped m h) (λ l ll x. not-false _ (sym (stood l ll) ∙ not-true _ x)) in
