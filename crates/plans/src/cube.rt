@@ -22,14 +22,23 @@ impl Plan for Cube {
         ensures value { result ≡ cube_rounds n }
         ensures log { Logarithm n result }
     {
-        if n.is_power_of_two() && n <= 16 {
-            n.ilog2() as u8
-        } else {
-            0
-        }
+        logarithm(n)
     }
 
     fn names(&self, n: u8, turn: Turn) -> bool {
         turn.is_proper(n, self.rounds(n)) && (turn.speaker ^ turn.listener).count_ones() == 1
+    }
+}
+
+// The base-2 logarithm of 2, 4, 8 and 16; 0 of any other number. (Its proof is written by hand, so it stands
+// below the plan's rounds: a bug planted there is refused there.)
+fn logarithm(n: u8) -> u8
+    ensures value { result ≡ cube_rounds n }
+    ensures log { Logarithm n result }
+{
+    if n.is_power_of_two() && n <= 16 {
+        n.ilog2() as u8
+    } else {
+        0
     }
 }

@@ -30,6 +30,16 @@ module _ (p : ℕ → Bool) where
       let same : a + 1 + n ≡ a + suc n = omega arith in
       ap (λ b. p a || b) (any_more (a + 1) n) ∙ swap_or (p a) _ rest ∙ ap (λ k. p k || (p a || rest)) same
 
+-- every number below 0 passes
+pub every-none : (p : ℕ → Bool) → true ≡ every 0 p
+unfolding every
+every-none p = refl
+
+-- no number below 0 does
+pub some-none : (p : ℕ → Bool) → false ≡ some 0 p
+unfolding some
+some-none p = refl
+
 pub every_suc : (p : ℕ → Bool) (n : ℕ) → every (suc n) p ≡ (p n && every n p)
 unfolding every
 every_suc p n = all_more p 0 n ∙ ap (λ k. p k && list_all p (range_with_len 0 n)) (zero-add n)

@@ -2,7 +2,7 @@ use Rattle.std.proofs.Common.{arith, sym, ◌∙◌}
 use Rattle.std.proofs.lemmas.Bool.Decides.{nat_tests}
 use Rattle.std.specs.Int.Count.{ones}
 use Rattle.plans.proofs.Logarithms.{log_is_rounds, rounds_are_log}
-use Rattle.plans.proofs.cube.CubePlan.rounds.Goals as goal
+use Rattle.plans.proofs.cube.logarithm.Goals as goal
 
 pub returns-then-n-le16-clause-value : goal.returns-then-n-le16-clause-value
 returns-then-n-le16-clause-value c =
