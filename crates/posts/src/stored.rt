@@ -39,7 +39,8 @@ fn empty<E: Entry>(memory: &mut [E])
     }
 }
 
-// How many rounds the memory serves, at most 32. (With `min` a loop up to the reach takes twice as long.)
+// How many rounds the memory serves, at most 32. (With `min` a loop up to the reach takes up to twice
+// the time.)
 fn rounds_of<E: Entry>(memory: &[E]) -> u8
     ensures { result ≡ reach_of E.layout memory.now }
 {
